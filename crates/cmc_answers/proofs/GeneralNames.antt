@@ -2,10 +2,10 @@
 use Rattle.std.proofs.Common.{◌≡◌, ℕ, true, false, List, [], ◌∷◌, ◌++◌, refl, sym, ◌∙◌, ap, append_assoc}
 use Rattle.std.proofs.lemmas.List.{append-nil}
 use Rattle.cmc_der.specs.Values.{BeginsWith}
-use Rattle.cmc_x509.specs.Taking.{Value}
+use Rattle.cmc_x509.specs.Options.{Value}
 use Rattle.cmc_x509.specs.Lists.{IsValueList}
 use Rattle.cmc_x509.proofs.ListLaws.{values_again}
-use Rattle.cmc_answers.specs.Wanting.{general_names, has_tag, bodies_of, names_of_tag}
+use Rattle.cmc_answers.specs.Wanted.{general_names, has_tag, bodies_of, names_of_tag}
 
 first_name : (rest after : List ℕ) (name : Value) → BeginsWith rest name.0 name.1 after → IsValueList after
     → general_names rest ≡ name ∷ general_names after

@@ -7,7 +7,7 @@ use Rattle.std.specs.Int.{w64, to_be_bytes}
 use Rattle.std.proofs.lemmas.Bool.{and_parts}
 use Rattle.sha2.specs.Sha256.{sha256}
 use Rattle.cmc_der.specs.Keys.{PublicKey, RequestFields, key_kind_of}
-use Rattle.cmc_der.specs.Building.{value}
+use Rattle.cmc_der.specs.Builders.{value}
 use Rattle.cmc_time.specs.Asn1.{IsCertificateTime}
 use Rattle.cmc_x509.specs.Certificates.{IsRequest, IsCertificate}
 use Rattle.cmc_x509.specs.KeyFiles.{IsKeyFile}

@@ -2,5 +2,5 @@ pub mod StandIns
 pub mod Signings
 pub mod Temporary
 pub mod Answers
-pub mod Wanting
-pub mod Judging
+pub mod Wanted
+pub mod Denials

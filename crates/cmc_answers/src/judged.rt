@@ -1,7 +1,7 @@
 //! Judged questions.
 ghost use Rattle.std.specs.Prelude.{◌≡◌, IfOk, is_none};
 ghost use Rattle.std.specs.Option.{option_copied};
-ghost use Rattle.cmc_answers.specs.Judging as spec;
+ghost use Rattle.cmc_answers.specs.Denials as spec;
 
 use crate::denial::Denial;
 use crate::judging::denial_of;
@@ -26,7 +26,7 @@ impl Drop for Judged {
 
 impl Model for Judged {
     ghost use Rattle.std.specs.Prelude.{◌≡◌};
-    ghost use Rattle.cmc_answers.specs.Judging.{JudgedQuestion, denial_of};
+    ghost use Rattle.cmc_answers.specs.Denials.{JudgedQuestion, denial_of};
 
     ghost Value = { JudgedQuestion };
 

@@ -3,8 +3,8 @@ ghost use Rattle.std.specs.Prelude.{◌≡◌, IfOk, is_none};
 ghost use Rattle.std.specs.List.{list_any};
 ghost use Rattle.std.specs.Str.{bytes_eq};
 ghost use Rattle.cmc_x509.specs.ReadCertificates.{request_fields_at};
-ghost use Rattle.cmc_policy_rules.specs.Allowing.{has_entry};
-ghost use Rattle.cmc_answers.specs.Judging as spec;
+ghost use Rattle.cmc_policy_rules.specs.Allowed.{has_entry};
+ghost use Rattle.cmc_answers.specs.Denials as spec;
 
 use crate::denial::Denial;
 use crate::wanting::wanted_of;
@@ -87,7 +87,7 @@ fn denial_of_wanted(
 }
 
 /// Why the request of the question may not be approved, by the question's rules; `None` exactly where it may be.
-#[tactic(auto, unfolding(crate::specs::Judging::denial_of))]
+#[tactic(auto, unfolding(crate::specs::Denials::denial_of))]
 pub fn denial_of(alloc: Global, order: &JudgeOrder) -> Result<Option<Denial>, AllocError>
     ensures { IfOk result (λ denial. denial ≡ spec.denial_of order.now) }
 {

@@ -2,7 +2,7 @@
 ghost use Rattle.std.specs.Prelude.{◌≡◌, ◌==◌, ◌≢◌, IfOk, Some};
 ghost use Rattle.cmc_der.specs.Keys.{csr_shown, text_shown};
 ghost use Rattle.cmc_x509.specs.Lists.{IsValueList};
-ghost use Rattle.cmc_answers.specs.Wanting as spec;
+ghost use Rattle.cmc_answers.specs.Wanted as spec;
 
 use cmc_der::{CsrFields, KeyKind};
 use cmc_meta::Texts;

@@ -3,7 +3,7 @@ use Rattle.std.proofs.Common.{◌≡◌, refl}
 use Rattle.cmc_objects.specs.declared.role.Role.TheVariants.{Approver}
 use Rattle.cmc_pass.specs.declared.pass.Views.{Views}
 use Rattle.cmc_pass.specs.declared.pass.Desk.{Desk}
-use Rattle.cmc_rules.specs.Approving.{approver, judged_after}
+use Rattle.cmc_rules.specs.Approver.{approver, judged_after}
 use Rattle.cmc_rules.specs.Sound.{views_shown, IsSoundTable}
 use Rattle.cmc_approver.proofs.Table.{within, stays, none}
 

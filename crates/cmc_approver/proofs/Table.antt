@@ -10,7 +10,7 @@ use Rattle.cmc_objects.specs.declared.orders.Order.TheVariants as orders
 use Rattle.cmc_objects.specs.declared.role.Role.TheVariants.{Approver}
 use Rattle.cmc_objects.specs.Requests.{is_approved, is_denied}
 use Rattle.cmc_answers.specs.declared.denial.Denial.{Denial}
-use Rattle.cmc_answers.specs.Judging.{denial_of}
+use Rattle.cmc_answers.specs.Denials.{denial_of}
 use Rattle.cmc_pass.specs.declared.pass.Views.{Views}
 use Rattle.cmc_pass.specs.declared.pass.Desk.{Desk}
 use Rattle.cmc_pass.specs.declared.pass.Act.{Act}
@@ -18,8 +18,8 @@ use Rattle.cmc_pass.specs.declared.pass.Act.TheVariants.{Nothing}
 use Rattle.cmc_pass.specs.declared.value.Value.{Value}
 use Rattle.cmc_pass.specs.declared.value.Value.TheVariants.{Made, Signed, Answered, Judged}
 use Rattle.cmc_pass.specs.Values.{IsValue}
-use Rattle.cmc_rules.specs.Approving.{approval, denied_for, verdict_call, is_covered, ask_judgement, judge_of, approver, verdict_by, judged_for, judged_after}
-use Rattle.cmc_rules.specs.Sighting.{IsWellSeen}
+use Rattle.cmc_rules.specs.Approver.{approval, denied_for, verdict_call, is_covered, ask_judgement, judge_of, approver, verdict_by, judged_for, judged_after}
+use Rattle.cmc_rules.specs.SeenObjects.{IsWellSeen}
 use Rattle.cmc_rules.specs.Sound.{IsFollowed, IsWithin}
 use Rattle.cmc_rules.proofs.Sights.{seen_request}
 use Rattle.cmc_rules.proofs.Lines.{by_test}

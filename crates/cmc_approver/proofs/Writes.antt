@@ -15,9 +15,9 @@ use Rattle.cmc_model.specs.Stored.{with_status}
 use Rattle.cmc_pass.specs.declared.pass.Views.{Views}
 use Rattle.cmc_pass.specs.declared.value.Value.TheVariants.{Judged}
 use Rattle.cmc_rules.specs.Rights.{ChangesVerdict, other_conditions}
-use Rattle.cmc_rules.specs.Approving.{approval, denied_for, judged_status, verdict_call}
+use Rattle.cmc_rules.specs.Approver.{approval, denied_for, judged_status, verdict_call}
 use Rattle.cmc_rules.specs.Dates.{StaysDated}
-use Rattle.cmc_rules.specs.Sighting.{OnSeen}
+use Rattle.cmc_rules.specs.SeenObjects.{OnSeen}
 use Rattle.cmc_rules.specs.Sound.{IsWriteAfterValue}
 use Rattle.cmc_rules.proofs.Sights.{seen_request}
 use Rattle.cmc_rules.proofs.Conditions.{others-transitioned}

@@ -1,6 +1,6 @@
 //! The act, by the first line of the table that fits.
 ghost use Rattle.std.specs.Prelude.{◌≡◌, IfOk};
-ghost use Rattle.cmc_rules.specs.Approving as table;
+ghost use Rattle.cmc_rules.specs.Approver as table;
 
 use cmc_meta::Text;
 use cmc_next::{is_approved, is_denied};
@@ -20,7 +20,7 @@ fn is_covered(rules: &Rules, issuer: &IssuerRef) -> bool
     issuer.group_at_use() == "cert-manager.io" && is_listed(&issuer.name, rules.issuers.as_slice())
 }
 
-#[tactic(auto, unfolding(cmc_rules::specs::Approving::ask_judgement))]
+#[tactic(auto, unfolding(cmc_rules::specs::Approver::ask_judgement))]
 fn ask_judgement(
     alloc: Global,
     request: &Shared<CertificateRequest>,
@@ -56,7 +56,7 @@ fn judge_one(
 /// It asks for a judgement of the request, by the rules of the desk. It does nothing where there is no request, where
 /// Approved or Denied is True already, where the issuer's group, with its default, is not `cert-manager.io`, and where
 /// the rules name neither the issuer nor `*`.
-#[tactic(auto, unfolding(cmc_rules::specs::Approving::approver))]
+#[tactic(auto, unfolding(cmc_rules::specs::Approver::approver))]
 pub fn act(alloc: Global, views: &Views, now: i64, desk: &Desk) -> Result<Act, AllocError>
     ensures { IfOk result (λ a. a ≡ table.approver views.now desk.now) }
 {

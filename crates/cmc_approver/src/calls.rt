@@ -1,12 +1,12 @@
 //! The write of a verdict.
 ghost use Rattle.std.specs.Prelude.{◌≡◌, IfOk};
-ghost use Rattle.cmc_rules.specs.Approving as table;
+ghost use Rattle.cmc_rules.specs.Approver as table;
 
 use cmc_meta::Condition;
 use cmc_objects::{Call, CertificateRequest, Object, RequestStatus, Shared};
 use std::alloc::{AllocError, Global};
 
-#[tactic(auto, unfolding(cmc_rules::specs::Approving::judged_status))]
+#[tactic(auto, unfolding(cmc_rules::specs::Approver::judged_status))]
 fn judged_status(verdict: Condition, status: &RequestStatus) -> Result<RequestStatus, AllocError>
     ensures { IfOk result (λ s. s ≡ table.judged_status verdict status.now) }
 {
@@ -31,7 +31,7 @@ fn with_verdict(
 }
 
 /// The status update, at the version of the request, with the verdict.
-#[tactic(auto, unfolding(cmc_rules::specs::Approving::verdict_call))]
+#[tactic(auto, unfolding(cmc_rules::specs::Approver::verdict_call))]
 pub fn judge_call(
     alloc: Global,
     verdict: Condition,

@@ -1,10 +1,10 @@
 //! The call that follows a value.
 ghost use Rattle.std.specs.Prelude.{◌≡◌, IfOk, IsSome, Some};
-ghost use Rattle.cmc_answers.specs.Judging.{denial_of};
+ghost use Rattle.cmc_answers.specs.Denials.{denial_of};
 ghost use Rattle.cmc_next.specs.Questions.{IsQuestionOf};
-ghost use Rattle.cmc_pass.specs.Giving.{order_of, value_of};
+ghost use Rattle.cmc_pass.specs.GivenValues.{order_of, value_of};
 ghost use Rattle.cmc_pass.specs.Values.{IsValue};
-ghost use Rattle.cmc_rules.specs.Approving as table;
+ghost use Rattle.cmc_rules.specs.Approver as table;
 
 use crate::calls::judge_call;
 use crate::verdicts::verdict_by;
@@ -65,7 +65,7 @@ fn judged_for(
     }
 }
 
-#[tactic(auto, unfolding(cmc_rules::specs::Approving::judged_after))]
+#[tactic(auto, unfolding(cmc_rules::specs::Approver::judged_after))]
 fn followed(
     alloc: Global,
     views: &Views,

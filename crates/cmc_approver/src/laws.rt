@@ -1,6 +1,6 @@
 //! What is proved of the controller's table.
 ghost use Rattle.cmc_objects.specs.declared.role.Role.TheVariants.{Approver};
-ghost use Rattle.cmc_rules.specs.Approving.{approver, judged_after};
+ghost use Rattle.cmc_rules.specs.Approver.{approver, judged_after};
 ghost use Rattle.cmc_rules.specs.Sound.{IsSoundTable};
 
 /// A law: the controller calls nothing without a judgement; its call is for the request that it sees, at its version,

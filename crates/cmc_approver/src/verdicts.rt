@@ -1,6 +1,6 @@
 //! The conditions Approved and Denied, with their texts.
 ghost use Rattle.std.specs.Prelude.{◌≡◌, ◌++◌, IfOk, codes};
-ghost use Rattle.cmc_rules.specs.Approving as table;
+ghost use Rattle.cmc_rules.specs.Approver as table;
 
 use cmc_answers::Denial;
 use cmc_meta::{Condition, ConditionKind, Text, Tri};
@@ -48,7 +48,7 @@ fn denial_text(alloc: Global, denial: &Denial) -> Result<Text, AllocError>
     }
 }
 
-#[tactic(auto, unfolding(cmc_rules::specs::Approving::approval))]
+#[tactic(auto, unfolding(cmc_rules::specs::Approver::approval))]
 fn approval(alloc: Global, moment: i64) -> Result<Condition, AllocError>
     ensures { IfOk result (λ c. c ≡ table.approval moment) }
 {
@@ -64,7 +64,7 @@ fn approval(alloc: Global, moment: i64) -> Result<Condition, AllocError>
     })
 }
 
-#[tactic(auto, unfolding(cmc_rules::specs::Approving::denied_for))]
+#[tactic(auto, unfolding(cmc_rules::specs::Approver::denied_for))]
 fn denied_for(alloc: Global, moment: i64, denial: &Denial) -> Result<Condition, AllocError>
     ensures { IfOk result (λ c. c ≡ table.denied_for moment denial.now) }
 {

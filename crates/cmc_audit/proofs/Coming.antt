@@ -12,12 +12,12 @@ use Rattle.cmc_audit_state.specs.declared.row.Row.{Row}
 use Rattle.cmc_audit_state.specs.declared.row.Version.{Version}
 use Rattle.cmc_audit_state.specs.OpenRows.{open_row_at}
 use Rattle.cmc_audit_ledger.specs.declared.ledger.Ledger.{Ledger}
-use Rattle.cmc_audit_ledger.specs.Following.{IsLedgerOf, IsRowOf}
+use Rattle.cmc_audit_ledger.specs.Ledgers.{IsLedgerOf, IsRowOf}
 use Rattle.cmc_model.specs.declared.write.Write.{Write}
 use Rattle.cmc_audit_clauses.specs.declared.clause.Clause.{Clause}
 use Rattle.cmc_audit_clauses.specs.declared.clause.Clause.TheVariants.{Counts}
 use Rattle.cmc_audit_steps.specs.Meant.{AreNamedEntries, IsMeant}
-use Rattle.cmc_audit_steps.specs.Stepping.{AreKept, FailsAt, IsClean, IsCleanLedger}
+use Rattle.cmc_audit_steps.specs.Steps.{AreKept, FailsAt, IsClean, IsCleanLedger}
 use Rattle.cmc_audit.specs.Verdicts.{AreClean, FailsFirst, IsWholeVerdict, MissCount, counted}
 
 -- ---- before any line

@@ -4,7 +4,7 @@ use Rattle.json.specs.Token.{Token, begin_object, end_object}
 use Rattle.serde_json.specs.Data.{Data, string, boolean}
 use Rattle.cmc_print.specs.Trees.{natural}
 use Rattle.cmc_object_lines.proofs.Laws.{of_rows}
-use Rattle.cmc_writer.specs.Adding.{with_value, with_rows}
+use Rattle.cmc_writer.specs.Additions.{with_value, with_rows}
 use Rattle.cmc_writer.proofs.Placed.{is_none, is_put}
 use Rattle.cmc_audit_clauses.specs.declared.clause.Verdict.{Verdict}
 use Rattle.cmc_audit_clauses.specs.declared.clause.Verdict.TheVariants.{Yes, No}

@@ -3,7 +3,7 @@ use Rattle.std.specs.Prelude.{◌≡◌, ℕ, List, reverse}
 use Rattle.cmc_report.specs.Text.{joined}
 use Rattle.cmc_lines.specs.declared.printed.Printed.{Printed}
 use Rattle.cmc_line_reading.specs.Histories.{HistoryFailsAt, IsHistory, IsHistoryOf}
-use Rattle.cmc_audit_ledger.specs.Following.{setting_of}
+use Rattle.cmc_audit_ledger.specs.Ledgers.{setting_of}
 use Rattle.cmc_audit_clauses.specs.declared.clause.Verdict.{Verdict}
 use Rattle.cmc_audit.specs.declared.answering.NotAudited.{NotAudited}
 use Rattle.cmc_audit.specs.declared.answering.NotAudited.TheVariants as refusals

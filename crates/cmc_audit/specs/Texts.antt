@@ -2,7 +2,7 @@
 use Rattle.std.specs.Prelude.{ℕ, true, false, List, [], ◌∷◌, codes, Some}
 use Rattle.serde_json.specs.Data.{Data, string, boolean, object, no_members, put}
 use Rattle.cmc_print.specs.Trees.{line_of, natural}
-use Rattle.cmc_writer.specs.Adding.{Row}
+use Rattle.cmc_writer.specs.Additions.{Row}
 use Rattle.cmc_audit_clauses.specs.declared.clause.Clause.{Clause}
 use Rattle.cmc_audit_clauses.specs.declared.clause.Clause.TheVariants as clauses
 use Rattle.cmc_audit_clauses.specs.declared.clause.Verdict.{Verdict}

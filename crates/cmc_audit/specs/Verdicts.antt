@@ -12,7 +12,7 @@ use Rattle.cmc_audit_clauses.specs.declared.clause.Clause.TheVariants.{Counts}
 use Rattle.cmc_audit_clauses.specs.declared.clause.Verdict.{Verdict}
 use Rattle.cmc_audit_clauses.specs.declared.clause.Verdict.TheVariants.{Yes, No}
 use Rattle.cmc_audit_steps.specs.Meant.{IsMeant}
-use Rattle.cmc_audit_steps.specs.Stepping.{AreKept, FailsAt, IsClean}
+use Rattle.cmc_audit_steps.specs.Steps.{AreKept, FailsAt, IsClean}
 
 -- the lines stand for a history, and for no history in which something fails
 pub record AreClean (s : Setting) (lines : List PrintedLine) : Type 0 where

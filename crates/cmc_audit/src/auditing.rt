@@ -1,7 +1,7 @@
 //! The audit of a printed history.
 ghost use Rattle.std.specs.Prelude.{◌≡◌, [], IfOk, reverse};
-ghost use Rattle.cmc_audit_ledger.specs.Following.{IsLedgerOf, setting_of};
-ghost use Rattle.cmc_audit_steps.specs.Stepping.{AreKept};
+ghost use Rattle.cmc_audit_ledger.specs.Ledgers.{IsLedgerOf, setting_of};
+ghost use Rattle.cmc_audit_steps.specs.Steps.{AreKept};
 ghost use Rattle.cmc_audit.specs.Verdicts.{CameTo, IsVerdict};
 
 use crate::counts::is_counted;

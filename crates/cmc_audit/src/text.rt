@@ -1,7 +1,7 @@
 //! The line that says a verdict.
 ghost use Rattle.std.specs.Prelude.{◌≡◌, [], Some, codes, IfOk, OnOk, string_bytes};
 ghost use Rattle.cmc_print.specs.Trees.{line_of};
-ghost use Rattle.cmc_writer.specs.Adding.{with_row, with_rows, with_value};
+ghost use Rattle.cmc_writer.specs.Additions.{with_row, with_rows, with_value};
 ghost use Rattle.cmc_audit.specs.Texts as words;
 
 use cmc_audit_clauses::{Clause, Verdict};

@@ -15,7 +15,7 @@ use Rattle.cmc_model.specs.Admission.{is_taken, refusing_rule}
 use Rattle.cmc_model.specs.Generated.{named, free_named, generated_name, free_from, has_number}
 use Rattle.cmc_model.specs.Replies.{State, IsReply, IsServed, IsCreated, IsCreatedIn, IsUpdated, IsRestated, IsAdmitted, IsChange, IsAtVersion, is_accepted, key_of_call, settled, stored, stored_over, from_old, put_at, state_after, under_reply}
 use Rattle.cmc_lines.specs.Shown.{shown_object}
-use Rattle.cmc_audit_calls.specs.Reading.{bare_call}
+use Rattle.cmc_audit_calls.specs.CallsOfLines.{bare_call}
 
 -- ---- each word is the same
 

@@ -18,7 +18,7 @@ use Rattle.cmc_report.specs.Trees.{call_key}
 use Rattle.cmc_lines.specs.declared.line.CallName.{CallName}
 use Rattle.cmc_lines.specs.declared.line.CallName.TheVariants as names
 use Rattle.cmc_lines.specs.Shown.{shown_given, shown_name, shown_object, shown_version}
-use Rattle.cmc_audit_calls.specs.Reading.{HasCallNames, IsShownCall, IsOfNames, IsRead, IsShown, Shows, bare_call, call_of_parts, is_slash, key_of_names, key_of_printed, key_under, kind_read, name_read, split}
+use Rattle.cmc_audit_calls.specs.CallsOfLines.{HasCallNames, IsShownCall, IsOfNames, IsRead, IsShown, Shows, bare_call, call_of_parts, is_slash, key_of_names, key_of_printed, key_under, kind_read, name_read, split}
 
 -- ---- no slash stands in a name
 

@@ -1,6 +1,6 @@
 //! Keys written as text.
 ghost use Rattle.std.specs.Prelude.{◌≡◌, IfOk};
-ghost use Rattle.cmc_audit_calls.specs.Reading as words;
+ghost use Rattle.cmc_audit_calls.specs.CallsOfLines as words;
 
 use cmc_meta::{BadName, Key, Kind, Name};
 use std::alloc::{AllocError, Global};

@@ -3,8 +3,8 @@ ghost use Rattle.std.specs.Prelude.{◌≡◌, ◌↔◌, None, Some, IfOk, IsTr
 ghost use Rattle.cmc_lines.specs.declared.line.CallName.TheVariants as names;
 ghost use Rattle.cmc_report.specs.Trees.{call_key};
 ghost use Rattle.cmc_lines.specs.Shown.{shown_meta, shown_object};
-ghost use Rattle.cmc_audit_calls.specs.Reading as words;
-ghost use Rattle.cmc_audit_calls.specs.Reading.{IsShownCall, IsRead, IsShown, bare_call};
+ghost use Rattle.cmc_audit_calls.specs.CallsOfLines as words;
+ghost use Rattle.cmc_audit_calls.specs.CallsOfLines.{IsShownCall, IsRead, IsShown, bare_call};
 
 use crate::keys::key_read;
 use cmc_lines::CallName;

@@ -42,18 +42,18 @@ use Rattle.cmc_model.specs.Writes.{writes, oldest, of_kind}
 use Rattle.cmc_model.proofs.Versions.{IsLawful, lawful_called, lawful_object, versions_low, standing, keyed, version_of_kind, version_of_oldest}
 use Rattle.cmc_model.proofs.Writes.{writes_count, writes_leave}
 use Rattle.cmc_rules.specs.declared.progress.OpenPass.{OpenPass}
-use Rattle.cmc_rules.specs.Sighting.{IsAmong}
+use Rattle.cmc_rules.specs.SeenObjects.{IsAmong}
 use Rattle.cmc_rules.specs.Safety.{IsGoodIssue, IsLiveRead, IsOfIssuer, IsTemporaryCertificate, HasEntry}
-use Rattle.cmc_rules.specs.Viewing.{Caches, certificate_at, certificate_in as certificate_part, has_next_label, is_owned, next_in, next_of, of_certificate, owned_in, requests_of, views_in, views_of}
+use Rattle.cmc_rules.specs.Views.{Caches, certificate_at, certificate_in as certificate_part, has_next_label, is_owned, next_in, next_of, of_certificate, owned_in, requests_of, views_in, views_of}
 use Rattle.cmc_rules.proofs.Sighted.{picked, stands_among}
 use Rattle.cmc_rules.proofs.Sights.{found_among}
-use Rattle.cmc_rules.specs.Raising.{revision_of_uid}
+use Rattle.cmc_rules.specs.Revisions.{revision_of_uid}
 use Rattle.cmc_audit_state.specs.declared.row.Row.{Row}
 use Rattle.cmc_audit_state.specs.declared.row.Version.{Version}
 use Rattle.cmc_audit_state.specs.Heard.{approved, last_judged, has_found, finds, is_by, saved}
 use Rattle.cmc_audit_state.specs.Journaled.{cached, is_denied_uid}
-use Rattle.cmc_audit_ledger.specs.Following.{IsRow, reached}
-use Rattle.cmc_audit_clauses.specs.Issuing.{Exists, IsIssueBy, IsIssueFor, IsIssueOf, IsIssueWith, IsIssuers, IsKeptIssue, IsSignedWrite, IsTemporaryWrite, next_key_at, next_named, request_in_progress}
+use Rattle.cmc_audit_ledger.specs.Ledgers.{IsRow, reached}
+use Rattle.cmc_audit_clauses.specs.IssueClauses.{Exists, IsIssueBy, IsIssueFor, IsIssueOf, IsIssueWith, IsIssuers, IsKeptIssue, IsSignedWrite, IsTemporaryWrite, next_key_at, next_named, request_in_progress}
 use Rattle.cmc_audit_clauses.proofs.Heeding.{never_denied, none_denied, same_number}
 
 -- ---- where there is one

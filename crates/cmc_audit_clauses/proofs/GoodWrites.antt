@@ -18,7 +18,7 @@ use Rattle.cmc_objects.specs.declared.call.Call.TheVariants.{Create, Update, Upd
 use Rattle.cmc_objects.specs.declared.entry.Entry.{Entry}
 use Rattle.cmc_objects.specs.Objects.{key_of, version_of}
 use Rattle.cmc_objects.specs.Requests.{is_approved}
-use Rattle.cmc_objects.specs.Watching.{works_on_requests}
+use Rattle.cmc_objects.specs.Informers.{works_on_requests}
 use Rattle.cmc_pass.specs.declared.pass.Views.{Views}
 use Rattle.cmc_model.specs.declared.write.Write.{Write}
 use Rattle.cmc_model.specs.Objects.{Objects, object_at}
@@ -29,16 +29,16 @@ use Rattle.cmc_model.specs.Verdicts.{IsAnswered}
 use Rattle.cmc_model.specs.Writes.{writes}
 use Rattle.cmc_model.proofs.Versions.{keyed}
 use Rattle.cmc_rules.specs.declared.progress.OpenPass.{OpenPass}
-use Rattle.cmc_rules.specs.Raising.{stated_revision, RaisesRevision}
+use Rattle.cmc_rules.specs.Revisions.{stated_revision, RaisesRevision}
 use Rattle.cmc_rules.specs.Safety.{IsGoodAsk, IsGoodIssue, IsGoodRaise, IsStatusUpdate, LeavesRevisions, RaisesWell}
-use Rattle.cmc_rules.specs.Viewing.{Caches, request_at, request_in, views_in, views_of}
+use Rattle.cmc_rules.specs.Views.{Caches, request_at, request_in, views_in, views_of}
 use Rattle.cmc_audit_state.specs.declared.row.Row.{Row}
 use Rattle.cmc_audit_state.specs.declared.row.Version.{Version}
 use Rattle.cmc_audit_state.specs.Heard.{approved, has_yes_on}
 use Rattle.cmc_audit_state.specs.Journaled.{cached, is_denied_uid}
-use Rattle.cmc_audit_ledger.specs.Following.{IsRow, reached}
+use Rattle.cmc_audit_ledger.specs.Ledgers.{IsRow, reached}
 use Rattle.cmc_audit_clauses.specs.Clauses.{IsApproval, IsIssue, IsJudgedOn}
-use Rattle.cmc_audit_clauses.specs.Issuing.{Exists, IsKeptIssue}
+use Rattle.cmc_audit_clauses.specs.IssueClauses.{Exists, IsKeptIssue}
 use Rattle.cmc_audit_clauses.specs.Kept.{IsAskFor, IsKeptApproval, IsKeptAsk, IsKeptRaise, IsKeptWrite, KeepsOrRaises, OnBoth, SameRevision, approves, is_approver, is_issuing_role, is_secret, is_status_update, secret_if_any}
 use Rattle.cmc_audit_clauses.proofs.Heeding.{approved_judged, judged_approved, never_denied, none_denied, saved_stands, stands_saved}
 use Rattle.cmc_audit_clauses.proofs.GoodIssues.{DeniesNoMore, KeptRow, cached_version, good_kept, here, kept_good, lawful, there}

@@ -24,7 +24,7 @@ use Rattle.cmc_rules.specs.Legality.{IsDelivery, IsListing, IsBegin, IsOpen, IsC
 use Rattle.cmc_rules.specs.Passes.{open_pass}
 use Rattle.cmc_rules.specs.Rights.{IsRightfulEntry}
 use Rattle.cmc_rules.specs.Safety.{IsGoodIssue, RaisesWell, LeavesRevisions, AsksWell, LastAsks}
-use Rattle.cmc_audit_ledger.specs.Placing.{IsTick}
+use Rattle.cmc_audit_ledger.specs.Positions.{IsTick}
 use Rattle.cmc_audit_clauses.specs.declared.clause.Clause.{Clause}
 use Rattle.cmc_audit_clauses.specs.declared.clause.Clause.TheVariants as clauses
 

@@ -13,14 +13,14 @@ use Rattle.cmc_objects.specs.declared.call.Call.{Call}
 use Rattle.cmc_objects.specs.declared.call.Call.TheVariants.{UpdateStatus}
 use Rattle.cmc_objects.specs.Objects.{key_of, version_of}
 use Rattle.cmc_objects.specs.Requests.{is_approved}
-use Rattle.cmc_objects.specs.Watching.{works_on_requests}
+use Rattle.cmc_objects.specs.Informers.{works_on_requests}
 use Rattle.cmc_model.specs.declared.write.Write.{Write}
-use Rattle.cmc_rules.specs.Raising.{stated_revision, RaisesRevision}
-use Rattle.cmc_rules.specs.Viewing.{request_at}
+use Rattle.cmc_rules.specs.Revisions.{stated_revision, RaisesRevision}
+use Rattle.cmc_rules.specs.Views.{request_at}
 use Rattle.cmc_audit_state.specs.declared.row.Row.{Row}
 use Rattle.cmc_audit_state.specs.Heard.{has_yes_on}
 use Rattle.cmc_audit_state.specs.Journaled.{cached, is_denied_uid}
-use Rattle.cmc_audit_clauses.specs.Issuing.{Exists, IsKeptIssue}
+use Rattle.cmc_audit_clauses.specs.IssueClauses.{Exists, IsKeptIssue}
 
 -- where an object stood and one exists, P holds of them
 abbrev pub OnBoth : (Object → Object → Type 0) → Option Object → Option Object → Type 0

@@ -1,3 +1,3 @@
 pub mod Clauses
-pub mod Issuing
+pub mod IssueClauses
 pub mod Kept

@@ -8,10 +8,10 @@ ghost use Rattle.cmc_meta.specs.PairLists.{text_by_key};
 ghost use Rattle.cmc_answers.specs.Temporary as spec;
 ghost use Rattle.cmc_match.specs.Facts.{HasRequestedKey, IsPair, certificate_file_in, key_in};
 ghost use Rattle.cmc_rules.specs.Safety.{IsIssued};
-ghost use Rattle.cmc_rules.specs.Viewing as seen;
+ghost use Rattle.cmc_rules.specs.Views as seen;
 ghost use Rattle.cmc_audit_state.specs.Journaled.{cached};
-ghost use Rattle.cmc_audit_clauses.specs.Issuing as words;
-ghost use Rattle.cmc_audit_clauses.specs.Issuing.{Exists, IsIssueBy, IsIssueFor, IsIssueOf, IsIssueWith, IsIssuers, IsKeptIssue, IsKeyed, IsSignedWrite, IsTemporaryWrite, HasTargetName, SaysIssued};
+ghost use Rattle.cmc_audit_clauses.specs.IssueClauses as words;
+ghost use Rattle.cmc_audit_clauses.specs.IssueClauses.{Exists, IsIssueBy, IsIssueFor, IsIssueOf, IsIssueWith, IsIssuers, IsKeptIssue, IsKeyed, IsSignedWrite, IsTemporaryWrite, HasTargetName, SaysIssued};
 
 use cmc_answers::temporary;
 use cmc_audit_ledger::certificate_seen;

@@ -4,11 +4,11 @@ ghost use Rattle.std.specs.Prelude.{◌≡◌, ◌↔◌, ◌+◌, IfOk, IsTrue,
 ghost use Rattle.cmc_meta.specs.declared.key.Kind.TheVariants as kinds;
 ghost use Rattle.cmc_objects.specs.Objects.{key_of, version_of};
 ghost use Rattle.cmc_objects.specs.Requests.{is_run_time};
-ghost use Rattle.cmc_rules.specs.Raising.{RaisesRevision, stated_revision};
-ghost use Rattle.cmc_rules.specs.Viewing.{request_at};
+ghost use Rattle.cmc_rules.specs.Revisions.{RaisesRevision, stated_revision};
+ghost use Rattle.cmc_rules.specs.Views.{request_at};
 ghost use Rattle.cmc_audit_state.specs.Heard as heard;
 ghost use Rattle.cmc_audit_state.specs.Journaled.{cached};
-ghost use Rattle.cmc_audit_clauses.specs.Issuing.{Exists};
+ghost use Rattle.cmc_audit_clauses.specs.IssueClauses.{Exists};
 ghost use Rattle.cmc_audit_clauses.specs.Kept as words;
 ghost use Rattle.cmc_audit_clauses.specs.Kept.{IsAskFor, IsKeptApproval, IsKeptAsk, IsKeptRaise, IsKeptWrite, KeepsOrRaises, OnBoth, SameRevision};
 

@@ -42,14 +42,14 @@ use Rattle.cmc_rules.specs.NextKeys.{is_named, has_fitting_key, named_key}
 use Rattle.cmc_rules.specs.NextRequests.{is_wanted, is_refused, next_requests}
 use Rattle.cmc_rules.proofs.Lines.{by_test}
 use Rattle.cmc_audit_laws.specs.Given.{IsForCertificate}
-use Rattle.cmc_rules.specs.Triggering as triggering
-use Rattle.cmc_rules.specs.KeyManaging as key_managing
-use Rattle.cmc_rules.specs.RequestManaging as request_managing
-use Rattle.cmc_rules.specs.Approving as approving
-use Rattle.cmc_rules.specs.Granting as granting
-use Rattle.cmc_rules.specs.Issuing as issuing
-use Rattle.cmc_rules.specs.Readying as readying
-use Rattle.cmc_rules.specs.Revising as revising
+use Rattle.cmc_rules.specs.Trigger as triggering
+use Rattle.cmc_rules.specs.KeyManager as key_managing
+use Rattle.cmc_rules.specs.RequestManager as request_managing
+use Rattle.cmc_rules.specs.Approver as approving
+use Rattle.cmc_rules.specs.Issuer as granting
+use Rattle.cmc_rules.specs.Issuance as issuing
+use Rattle.cmc_rules.specs.Readiness as readying
+use Rattle.cmc_rules.specs.RevisionManager as revising
 
 -- ---- what a call brings
 

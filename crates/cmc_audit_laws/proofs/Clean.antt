@@ -15,7 +15,7 @@ use Rattle.cmc_model.specs.Objects.{object_at}
 use Rattle.cmc_model.specs.Replies.{is_accepted, key_of_call, settled, stored}
 use Rattle.cmc_model.specs.Histories.{Setting, moment, objects, accepted}
 use Rattle.cmc_rules.specs.declared.progress.OpenPass.{OpenPass}
-use Rattle.cmc_rules.specs.Following.{Follows}
+use Rattle.cmc_rules.specs.UserSteps.{Follows}
 use Rattle.cmc_rules.specs.Legality.{IsLegal, IsLegalEntry}
 use Rattle.cmc_rules.specs.Passes.{open_pass}
 use Rattle.cmc_rules.specs.Rights.{MayChange, IsRightful, IsRightfulEntry}
@@ -25,7 +25,7 @@ use Rattle.cmc_safety.specs.Formed.{IsFormed}
 use Rattle.cmc_audit_clauses.specs.declared.clause.Clause.{Clause}
 use Rattle.cmc_audit_clauses.specs.declared.clause.Clause.TheVariants as clauses
 use Rattle.cmc_audit_clauses.specs.Clauses.{IsRightReply, AsksAbout, IsJudgedOn, IsGoodQuestion, Holds}
-use Rattle.cmc_audit_steps.specs.Stepping.{IsClean}
+use Rattle.cmc_audit_steps.specs.Steps.{IsClean}
 use Rattle.cmc_audit_laws.proofs.Issues.{Earlier, below, good_issue, good_question}
 use Rattle.cmc_audit_laws.proofs.Placed.{HaveSeconds, placed}
 

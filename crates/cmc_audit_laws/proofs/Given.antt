@@ -28,7 +28,7 @@ use Rattle.cmc_objects.specs.declared.entry.Entry.{Entry}
 use Rattle.cmc_objects.specs.declared.entry.Entry.TheVariants.{Script, Call as Called, Deliver, List as Listed, Begin, Ask, Made, Signed, Answered, Judged, End, Stop, Start, Tick}
 use Rattle.cmc_objects.specs.Objects.{key_of, no_cert_status, no_request_status, numbered}
 use Rattle.cmc_objects.specs.Requests.{is_run_time, is_issuer_form, is_duration_form}
-use Rattle.cmc_objects.specs.Watching.{kind_of_work}
+use Rattle.cmc_objects.specs.Informers.{kind_of_work}
 use Rattle.cmc_policies.specs.Renewal.{IsCertificateTime}
 use Rattle.cmc_answers.specs.Signings.{signing_of}
 use Rattle.cmc_pass.specs.declared.value.Value.{Value}
@@ -45,11 +45,11 @@ use Rattle.cmc_rules.specs.declared.progress.Stage.TheVariants.{Fresh, Asked, Gi
 use Rattle.cmc_rules.specs.Causes.{IsCaused, IsNextCall, MayCall, MayAsk, AsksBy, act_of, after_of}
 use Rattle.cmc_rules.specs.Dates.{IsDatedStatus, IsDatedAnswer, IsDated}
 use Rattle.cmc_rules.specs.Desks.{desk}
-use Rattle.cmc_rules.specs.Following.{Follows}
+use Rattle.cmc_rules.specs.UserSteps.{Follows}
 use Rattle.cmc_rules.specs.Legality.{IsLegal}
 use Rattle.cmc_rules.specs.Passes.{open_pass}
-use Rattle.cmc_rules.specs.Scripting.{step_at}
-use Rattle.cmc_rules.specs.Sighting.{IsSeen, OnSeen}
+use Rattle.cmc_rules.specs.Scripts.{step_at}
+use Rattle.cmc_rules.specs.SeenObjects.{IsSeen, OnSeen}
 use Rattle.cmc_rules.specs.UserWrites.{verdict, judge_call, answer_call, manual_condition, renew_call}
 use Rattle.cmc_rules.proofs.Dating.{dated_transitioned, dated_answered}
 use Rattle.cmc_rules.proofs.Sights.{seen_certificate, seen_request}

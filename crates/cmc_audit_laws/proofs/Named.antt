@@ -27,7 +27,7 @@ use Rattle.cmc_safety.proofs.Course.{AreSound, question_of}
 use Rattle.cmc_lines.specs.Shown.{line_of_entry}
 use Rattle.cmc_audit_calls.proofs.OneReply.{one_reply}
 use Rattle.cmc_audit_steps.specs.Meant.{IsVersionNamed, IsNamedOrder, IsNamedEntry, AreNamedEntries, IsMeant}
-use Rattle.cmc_audit_laws.specs.Passing.{NamesItsKey, NameTheirKeys}
+use Rattle.cmc_audit_laws.specs.AuditedYes.{NamesItsKey, NameTheirKeys}
 
 -- ---- what is seen is a version under its key
 

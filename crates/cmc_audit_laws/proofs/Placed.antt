@@ -11,11 +11,11 @@ use Rattle.cmc_model.specs.Histories.{Setting, moment, objects}
 use Rattle.cmc_rules.specs.declared.effect.Effect.{Effect}
 use Rattle.cmc_rules.specs.declared.effect.Effect.TheVariants as effects
 use Rattle.cmc_rules.specs.Legality.{IsLegalEntry}
-use Rattle.cmc_rules.specs.Scripting.{step_at}
-use Rattle.cmc_rules.specs.Following.{call_of, call_or, effect_of, owed, FollowsEntry, Follows}
+use Rattle.cmc_rules.specs.Scripts.{step_at}
+use Rattle.cmc_rules.specs.UserSteps.{call_of, call_or, effect_of, owed, FollowsEntry, Follows}
 use Rattle.cmc_safety.specs.Formed.{IsFormed}
 use Rattle.cmc_safety.proofs.Moments.{moment_in_run}
-use Rattle.cmc_audit_ledger.specs.Placing.{IsTick}
+use Rattle.cmc_audit_ledger.specs.Positions.{IsTick}
 use Rattle.cmc_audit_clauses.specs.Clauses.{IsPlaced}
 
 -- each tick of the script has at least a second

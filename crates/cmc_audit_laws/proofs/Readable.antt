@@ -14,7 +14,7 @@ use Rattle.cmc_meta.specs.Wordings.{is_clean, is_printable_name}
 use Rattle.cmc_meta.specs.declared.object_meta.ObjectMeta.{ObjectMeta}
 use Rattle.cmc_meta.specs.declared.owners.OwnerRef.{OwnerRef}
 use Rattle.cmc_time.specs.Durations.{longest, go_duration}
-use Rattle.cmc_time.specs.DurationReading.{duration_seconds}
+use Rattle.cmc_time.specs.DurationTexts.{duration_seconds}
 use Rattle.cmc_time.proofs.DurationLaws.{duration_again, go_duration_is}
 use Rattle.cmc_x509_build.specs.Addresses.{address_at}
 use Rattle.cmc_objects.specs.declared.issuer.IssuerRef.{IssuerRef}
@@ -25,7 +25,7 @@ use Rattle.cmc_objects.specs.declared.object.Object.TheVariants.{Cert, Request, 
 use Rattle.cmc_objects.specs.Objects.{no_cert_status, no_request_status}
 use Rattle.cmc_objects.specs.Requests.{is_short_text, is_short_option, is_issuer_form, is_duration_form}
 use Rattle.cmc_setup.specs.ObjectForms.{are_certificate_terms, are_subject_names, is_address_text, is_object_form}
-use Rattle.cmc_cursor.specs.Reading.{◌>>=◌, under, fields_of, optional_at, required_at}
+use Rattle.cmc_cursor.specs.Members.{◌>>=◌, under, fields_of, optional_at, required_at}
 use Rattle.cmc_cursor.specs.Readers.{text_at, word_at, name_at, short_text_at, printable_at, small_count_at, bytes_at, parts_at}
 use Rattle.cmc_print.specs.Trees.{natural}
 use Rattle.cmc_print.specs.Puts.{strings, base64_text, map_tree}

@@ -11,7 +11,7 @@ use Rattle.cmc_safety.specs.Formed.{IsFormed}
 use Rattle.cmc_safety.proofs.Course.{AreSound}
 use Rattle.cmc_safety.proofs.Safe.{safe}
 use Rattle.cmc_setup.specs.Setups.{IsTickForm}
-use Rattle.cmc_audit_laws.specs.Passing.{NameTheirKeys, IsAuditedYes}
+use Rattle.cmc_audit_laws.specs.AuditedYes.{NameTheirKeys, IsAuditedYes}
 use Rattle.cmc_audit_laws.proofs.Placed.{HaveSeconds}
 use Rattle.cmc_audit_laws.proofs.Clean.{clean}
 use Rattle.cmc_audit_laws.proofs.Named.{are_named}

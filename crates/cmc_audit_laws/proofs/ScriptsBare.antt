@@ -9,7 +9,7 @@ use Rattle.cmc_objects.specs.declared.entry.Step.TheVariants.{Apply}
 use Rattle.cmc_objects.specs.declared.object.Object.{Object}
 use Rattle.cmc_setup.specs.Setups.{Setup}
 use Rattle.cmc_setup.specs.Stages.{Stage}
-use Rattle.cmc_cursor.specs.Reading.{Read, in_words, ◌>>=◌, under, Field, fields_at, optional_at, required_at, at_end}
+use Rattle.cmc_cursor.specs.Members.{Read, in_words, ◌>>=◌, under, Field, fields_at, optional_at, required_at, at_end}
 use Rattle.cmc_cursor.specs.Readers.{count_at, word_at, text_at, parts_at, passes, floats_at, text_member}
 use Rattle.cmc_codec.specs.Given.{next_member_or as given_or, needed_at}
 use Rattle.cmc_codec.specs.MetadataForm.{head_at}
@@ -24,7 +24,7 @@ use Rattle.cmc_scenario.specs.Roles.{role_at}
 use Rattle.cmc_scenario.specs.Scripts.{apply_in, delete_in, certificate_member_in, revision_in, approve_in, deny_in, answer_in, renew_in, tick_in, stop_in, start_in, informer_in, hold_in, release_in, until_in, settle_in, stray_in, waiting_step_in, running_in, step_in, script_step_at, in_turn, numbered_step_at, steps_from, steps_at, script_at}
 use Rattle.cmc_scenario.specs.Scenarios.{world_in, beginning_in, setup_in, setup_of, members_at, scenario_whole_at, size_at, scenario_at}
 use Rattle.cmc_cursor.proofs.Always.{Always, so, failed, next, after, below, either, where_true}
-use Rattle.cmc_rules.specs.Scripting.{step_at as step_of}
+use Rattle.cmc_rules.specs.Scripts.{step_at as step_of}
 use Rattle.cmc_audit_laws.specs.Given.{HasNoStatus, ApplyBare}
 
 -- ---- objects

@@ -17,7 +17,7 @@ use Rattle.cmc_model.specs.Objects.{object_at}
 use Rattle.cmc_model.specs.Histories.{Setting, objects}
 use Rattle.cmc_model.specs.Summaries.{is_waiting}
 use Rattle.cmc_rules.specs.Legality.{IsLegal}
-use Rattle.cmc_rules.specs.Sighting.{IsAmong}
+use Rattle.cmc_rules.specs.SeenObjects.{IsAmong}
 use Rattle.cmc_rules.proofs.Sighted.{stands_among}
 use Rattle.cmc_rules.proofs.Versions.{stands_is_version, version_keyed}
 use Rattle.cmc_summary.specs.declared.summary.Summary.{Summary}

@@ -22,12 +22,12 @@ use Rattle.cmc_line_reading.specs.declared.history.BadHistory.{BadHistory}
 use Rattle.cmc_line_reading.specs.declared.history.BadHistory.TheVariants as bad
 use Rattle.cmc_line_reading.specs.Histories.{IsHistoryOf, IsReading, counts_of}
 use Rattle.cmc_line_reading.proofs.OneHistory.{IsOneHistory, one_history}
-use Rattle.cmc_audit_ledger.specs.Following.{setting_of}
+use Rattle.cmc_audit_ledger.specs.Ledgers.{setting_of}
 use Rattle.cmc_audit_clauses.specs.declared.clause.Verdict.{Verdict}
 use Rattle.cmc_audit_clauses.specs.declared.clause.Verdict.TheVariants.{Yes}
 use Rattle.cmc_audit.specs.Verdicts.{IsVerdict, counted}
 use Rattle.cmc_audit_laws.specs.Counted.{EachCounted}
-use Rattle.cmc_audit_laws.specs.Passing.{NameTheirKeys, IsAuditedYes}
+use Rattle.cmc_audit_laws.specs.AuditedYes.{NameTheirKeys, IsAuditedYes}
 use Rattle.cmc_audit_laws.specs.Printed.{IsValueOf, ArePrintableEntries, IsPrintedOf, IsTypedSummary, IsRunPrinted, ReadsYes, IsTextAuditedYes}
 use Rattle.cmc_audit_laws.specs.Typed.{AreTyped}
 use Rattle.cmc_audit_laws.proofs.EntriesFormed.{are_formed}

@@ -9,9 +9,9 @@ use Rattle.cmc_audit_clauses.specs.declared.clause.Verdict.{Verdict}
 use Rattle.cmc_audit_clauses.specs.declared.clause.Verdict.TheVariants.{Yes, No}
 use Rattle.cmc_audit_clauses.specs.Clauses.{Holds}
 use Rattle.cmc_audit_steps.specs.Meant.{AreNamedEntries, IsNamedEntry, IsMeant}
-use Rattle.cmc_audit_steps.specs.Stepping.{IsClean}
+use Rattle.cmc_audit_steps.specs.Steps.{IsClean}
 use Rattle.cmc_audit.specs.Verdicts.{counted, FailsFirst, IsVerdict}
-use Rattle.cmc_audit_laws.specs.Passing.{IsAuditedYes}
+use Rattle.cmc_audit_laws.specs.AuditedYes.{IsAuditedYes}
 
 -- an entry of the history, with what stood before it
 record IsPlace (s : Setting) (line : PrintedLine) (before : List PrintedLine) : Type 0 where

@@ -14,9 +14,9 @@ use Rattle.cmc_objects.specs.declared.entry.Entry.{Entry}
 use Rattle.cmc_objects.specs.declared.entry.Entry.TheVariants.{Call as Called, Begin, Ask, Tick}
 use Rattle.cmc_objects.specs.Objects.{no_cert_status, no_request_status}
 use Rattle.cmc_objects.specs.Requests.{is_run_time}
-use Rattle.cmc_objects.specs.Watching.{kind_of_work}
+use Rattle.cmc_objects.specs.Informers.{kind_of_work}
 use Rattle.cmc_rules.specs.Dates.{IsDated}
-use Rattle.cmc_rules.specs.Scripting.{step_at}
+use Rattle.cmc_rules.specs.Scripts.{step_at}
 use Rattle.cmc_setup.specs.ObjectForms.{is_object_form}
 
 -- ---- what a script applies

@@ -1,4 +1,4 @@
-pub mod Passing
+pub mod AuditedYes
 pub mod Given
 pub mod Typed
 pub mod Counted

@@ -25,7 +25,7 @@ use Rattle.cmc_objects.specs.declared.orders.Signing.TheVariants as answers
 use Rattle.cmc_objects.specs.declared.entry.Entry.{Entry}
 use Rattle.cmc_objects.specs.declared.entry.Entry.TheVariants.{Call as Called, Begin, Ask, Made, Signed, Answered}
 use Rattle.cmc_codec.specs.Laws.{EachValue, IsOrdered}
-use Rattle.cmc_audit_calls.specs.Reading.{IsOfNames}
+use Rattle.cmc_audit_calls.specs.CallsOfLines.{IsOfNames}
 
 -- ---- metadata
 

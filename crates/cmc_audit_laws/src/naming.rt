@@ -1,7 +1,7 @@
 // What the types of a history's entries say of the keys of its calls.
 ghost use Rattle.std.specs.Prelude.{All};
-ghost use Rattle.cmc_audit_calls.specs.Reading.{HasCallNames, IsOfNames};
-ghost use Rattle.cmc_audit_laws.specs.Passing.{NamesItsKey, NameTheirKeys};
+ghost use Rattle.cmc_audit_calls.specs.CallsOfLines.{HasCallNames, IsOfNames};
+ghost use Rattle.cmc_audit_laws.specs.AuditedYes.{NamesItsKey, NameTheirKeys};
 
 use cmc_history::History;
 use cmc_meta::Key;

@@ -1,7 +1,7 @@
 // The verdict on what a run prints.
 ghost use Rattle.cmc_rules.specs.Runs.{IsRun};
-ghost use Rattle.cmc_audit_ledger.specs.Following.{setting_of};
-ghost use Rattle.cmc_audit_laws.specs.Passing.{IsAuditedYes};
+ghost use Rattle.cmc_audit_ledger.specs.Ledgers.{setting_of};
+ghost use Rattle.cmc_audit_laws.specs.AuditedYes.{IsAuditedYes};
 
 use crate::naming::entries_name_their_keys;
 use cmc_history::History;

@@ -4,7 +4,7 @@ ghost use Rattle.base64.specs.GeneralPurpose.{IsBytes};
 ghost use Rattle.cmc_meta.specs.ConditionLists.{IsInOrder};
 ghost use Rattle.cmc_meta.specs.Names.{is_subdomain};
 ghost use Rattle.cmc_codec.specs.Laws.{EachValue, IsOrdered};
-ghost use Rattle.cmc_audit_calls.specs.Reading.{IsOfNames};
+ghost use Rattle.cmc_audit_calls.specs.CallsOfLines.{IsOfNames};
 ghost use Rattle.cmc_audit_laws.specs.Typed as typed;
 
 use crate::naming::key_has_names;

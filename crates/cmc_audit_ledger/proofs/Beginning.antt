@@ -13,10 +13,10 @@ use Rattle.cmc_rules.specs.Positions.{position_of}
 use Rattle.cmc_setup.specs.Setups.{Setup, IsSetup}
 use Rattle.cmc_audit_state.specs.declared.row.Row.{Row}
 use Rattle.cmc_audit_state.specs.declared.standings.Standing.{Standing}
-use Rattle.cmc_audit_state.specs.Standing.{first_standing, standing_of}
+use Rattle.cmc_audit_state.specs.Standings.{first_standing, standing_of}
 use Rattle.cmc_audit_state.specs.OpenRows.{open_row_at}
 use Rattle.cmc_audit_ledger.specs.declared.ledger.Ledger.{Ledger}
-use Rattle.cmc_audit_ledger.specs.Following.{IsLedgerOf, IsRowOf, setting_of}
+use Rattle.cmc_audit_ledger.specs.Ledgers.{IsLedgerOf, IsRowOf, setting_of}
 use borrow.Author.Differences.{le-false}
 
 at_most : (a b : ℤ) (t : Bool) → int_le a b ≡ t → a ≤ℤ b → t ≡ true

@@ -27,22 +27,22 @@ use Rattle.cmc_model.proofs.Writes.{oldest-all, oldest-beyond}
 use Rattle.cmc_store.specs.Kept.{Kept}
 use Rattle.cmc_rules.specs.declared.progress.OpenPass.{OpenPass}
 use Rattle.cmc_rules.specs.Positions.{position, position_of, is_informer}
-use Rattle.cmc_rules.specs.Viewing.{Caches, views, views_in}
+use Rattle.cmc_rules.specs.Views.{Caches, views, views_in}
 use Rattle.cmc_rules.specs.Passes.{called, new_pass, stage_after, stage_given}
 use Rattle.cmc_rules.specs.declared.progress.Stage.{Stage}
 use Rattle.cmc_rules.specs.declared.progress.Stage.TheVariants.{Asked}
 use Rattle.cmc_audit_state.specs.declared.row.Row.{Row}
 use Rattle.cmc_audit_state.specs.declared.row.Version.{Version}
 use Rattle.cmc_audit_state.specs.declared.standings.Standing.{Standing}
-use Rattle.cmc_audit_state.specs.Standing.{standing_of}
+use Rattle.cmc_audit_state.specs.Standings.{standing_of}
 use Rattle.cmc_audit_state.specs.Heard.{is_by, finds, writes_lasting, is_served, judged_version, is_about}
 use Rattle.cmc_audit_state.specs.Journaled.{cached}
 use Rattle.cmc_audit_state.specs.OpenRows.{Opened, open_row_at, unless_role, with_asked, IsToldAt}
 use Rattle.cmc_audit_ledger.specs.declared.ledger.Ledger.{Ledger}
-use Rattle.cmc_audit_ledger.specs.Counting.{entry_counted}
-use Rattle.cmc_audit_ledger.specs.Starting.{MovesPosition, Starts, Stops, IsFirst}
-use Rattle.cmc_audit_ledger.specs.Calling.{HasBegun, ReadsSeen, ReadsBy, RowsAfter, saved_if, read_if}
-use Rattle.cmc_audit_ledger.specs.Following.{said, IsRow, IsRowOf, reached, IsLedgerOf}
+use Rattle.cmc_audit_ledger.specs.EntryCounts.{entry_counted}
+use Rattle.cmc_audit_ledger.specs.Starts.{MovesPosition, Starts, Stops, IsFirst}
+use Rattle.cmc_audit_ledger.specs.CallRows.{HasBegun, ReadsSeen, ReadsBy, RowsAfter, saved_if, read_if}
+use Rattle.cmc_audit_ledger.specs.Ledgers.{said, IsRow, IsRowOf, reached, IsLedgerOf}
 use Rattle.cmc_audit_ledger.proofs.Rows.{gone_on, closed, stopped, asked_at, told_at, grown, saved_at, read_at, FindsWhat}
 
 -- ---- entries that change nothing that is kept, but their count

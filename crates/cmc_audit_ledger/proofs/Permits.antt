@@ -8,7 +8,7 @@ use Rattle.cmc_meta.specs.Keys.{key_eq}
 use Rattle.cmc_objects.specs.declared.role.Role.{Role}
 use Rattle.cmc_objects.specs.declared.entry.Entry.{Entry}
 use Rattle.cmc_objects.specs.declared.entry.Positions.{Positions}
-use Rattle.cmc_objects.specs.Watching.{has_informer}
+use Rattle.cmc_objects.specs.Informers.{has_informer}
 use Rattle.cmc_model.specs.declared.write.Write.{Write}
 use Rattle.cmc_model.specs.Histories.{Setting, role_eq, accepted, runs}
 use Rattle.cmc_model.specs.Writes.{write_at, is_known}
@@ -19,11 +19,11 @@ use Rattle.cmc_rules.specs.Passes.{is_pass_of, open_pass}
 use Rattle.cmc_rules.specs.Positions.{positions}
 use Rattle.cmc_audit_state.specs.declared.row.Row.{Row}
 use Rattle.cmc_audit_state.specs.declared.row.Version.{Version}
-use Rattle.cmc_audit_state.specs.Standing.{standing_of}
+use Rattle.cmc_audit_state.specs.Standings.{standing_of}
 use Rattle.cmc_audit_state.specs.OpenRows.{is_row_of, open_row_at, IsOn}
 use Rattle.cmc_audit_ledger.specs.declared.ledger.Ledger.{Ledger}
-use Rattle.cmc_audit_ledger.specs.Following.{IsRowOf, IsLedgerOf}
-use Rattle.cmc_audit_ledger.specs.Placing.{HasRunningInformer, IsInWindow, IsBeyond, IsNext, shown_told}
+use Rattle.cmc_audit_ledger.specs.Ledgers.{IsRowOf, IsLedgerOf}
+use Rattle.cmc_audit_ledger.specs.Positions.{HasRunningInformer, IsInWindow, IsBeyond, IsNext, shown_told}
 
 -- ---- deliveries and lists
 

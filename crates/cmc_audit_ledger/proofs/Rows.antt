@@ -12,15 +12,15 @@ use Rattle.cmc_model.specs.Writes.{contents, of_kind}
 use Rattle.cmc_model.proofs.Writes.{oldest-older}
 use Rattle.cmc_rules.specs.declared.progress.OpenPass.{OpenPass}
 use Rattle.cmc_rules.specs.declared.progress.Stage.{Stage}
-use Rattle.cmc_rules.specs.Viewing.{Caches, certificate_at, views_in}
+use Rattle.cmc_rules.specs.Views.{Caches, certificate_at, views_in}
 use Rattle.cmc_rules.specs.Passes.{with_stage, unless_of}
 use Rattle.cmc_audit_state.specs.declared.row.Row.{Row}
 use Rattle.cmc_audit_state.specs.declared.row.Version.{Version}
 use Rattle.cmc_audit_state.specs.Heard.{has_yes_on, is_about}
 use Rattle.cmc_audit_state.specs.Journaled.{cached}
 use Rattle.cmc_audit_state.specs.OpenRows.{unless_role, with_asked, with_read, with_saved, IsToldRow, IsToldAt}
-use Rattle.cmc_audit_ledger.specs.Calling.{read_if}
-use Rattle.cmc_audit_ledger.specs.Following.{IsRow, IsRowOf}
+use Rattle.cmc_audit_ledger.specs.CallRows.{read_if}
+use Rattle.cmc_audit_ledger.specs.Ledgers.{IsRow, IsRowOf}
 
 -- what is said of one pass, and its row
 abbrev pub IsKept : List Write → (ℕ → Bool) → Bool → Option Version → (Version → Bool) → Row → OpenPass → Type 0

@@ -14,9 +14,9 @@ use Rattle.cmc_model.specs.Histories.{Setting}
 use Rattle.cmc_audit_state.specs.Heard.{writes_lasting, is_served}
 use Rattle.cmc_audit_state.specs.OpenRows.{Opened}
 use Rattle.cmc_audit_ledger.specs.declared.ledger.Ledger.{Ledger}
-use Rattle.cmc_audit_ledger.specs.Calling.{HasBegun, ReadsBy, RowsNoted, IsServedBy, writes_over}
-use Rattle.cmc_audit_ledger.specs.Counting.{entry_counted}
-use Rattle.cmc_audit_ledger.specs.Following.{IsLedgerOf}
+use Rattle.cmc_audit_ledger.specs.CallRows.{HasBegun, ReadsBy, RowsNoted, IsServedBy, writes_over}
+use Rattle.cmc_audit_ledger.specs.EntryCounts.{entry_counted}
+use Rattle.cmc_audit_ledger.specs.Ledgers.{IsLedgerOf}
 use Rattle.cmc_audit_ledger.proofs.Events.{called_on}
 
 written_by : (b : Bool) (key : Key) (object : Option Object) (ws : List Write) → writes_over ws (if b then Some key else None) (if b then object else None) ≡ (if b then record { key = key; object = object } ∷ ws else ws)

@@ -1,5 +1,5 @@
-pub mod Following
-pub mod Counting
-pub mod Starting
-pub mod Calling
-pub mod Placing
+pub mod Ledgers
+pub mod EntryCounts
+pub mod Starts
+pub mod CallRows
+pub mod Positions

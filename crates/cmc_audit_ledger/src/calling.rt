@@ -5,13 +5,13 @@ ghost use Rattle.cmc_meta.specs.declared.key.Kind.TheVariants as kinds;
 ghost use Rattle.cmc_objects.specs.declared.entry.Entry.{Entry as EntryValue};
 ghost use Rattle.cmc_objects.specs.declared.entry.Entry.TheVariants as entries;
 ghost use Rattle.cmc_model.specs.Histories.{Setting};
-ghost use Rattle.cmc_rules.specs.Viewing as seen;
+ghost use Rattle.cmc_rules.specs.Views as seen;
 ghost use Rattle.cmc_audit_state.specs.Heard as heard;
 ghost use Rattle.cmc_audit_state.specs.Journaled.{cached};
 ghost use Rattle.cmc_audit_state.specs.OpenRows.{open_row_at};
 ghost use Rattle.cmc_audit_ledger.specs.declared.ledger.Ledger.{Ledger as LedgerValue};
-ghost use Rattle.cmc_audit_ledger.specs.Calling.{HasBegun, IsServedBy, ReadsBy, ReadsSeen, RowsNoted, writes_over};
-ghost use Rattle.cmc_audit_ledger.specs.Following.{IsLedgerOf};
+ghost use Rattle.cmc_audit_ledger.specs.CallRows.{HasBegun, IsServedBy, ReadsBy, ReadsSeen, RowsNoted, writes_over};
+ghost use Rattle.cmc_audit_ledger.specs.Ledgers.{IsLedgerOf};
 
 use crate::ledger::Ledger;
 use cmc_audit_state::{Journal, Passes, Row};

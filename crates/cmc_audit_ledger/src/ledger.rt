@@ -10,8 +10,8 @@ ghost use Rattle.cmc_objects.specs.Requests.{is_run_time};
 ghost use Rattle.cmc_model.specs.Histories.{Setting};
 ghost use Rattle.cmc_audit_state.specs.Heard.{judged_version};
 ghost use Rattle.cmc_audit_state.specs.OpenRows.{IsOn};
-ghost use Rattle.cmc_audit_ledger.specs.Following.{IsLedgerOf};
-ghost use Rattle.cmc_audit_ledger.specs.Counting.{entry_counted};
+ghost use Rattle.cmc_audit_ledger.specs.Ledgers.{IsLedgerOf};
+ghost use Rattle.cmc_audit_ledger.specs.EntryCounts.{entry_counted};
 
 use crate::starting::{first_row, started, stopped, told};
 use cmc_audit_state::{Journal, Passes, Standings, Version};

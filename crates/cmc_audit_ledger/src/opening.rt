@@ -1,6 +1,6 @@
 //! What is kept before any entry.
 ghost use Rattle.std.specs.Prelude.{◌≡◌, [], IfOk};
-ghost use Rattle.cmc_audit_ledger.specs.Following.{IsLedgerOf, setting_of};
+ghost use Rattle.cmc_audit_ledger.specs.Ledgers.{IsLedgerOf, setting_of};
 
 use crate::ledger::Ledger;
 use cmc_audit_state::{Journal, Passes, Standings};

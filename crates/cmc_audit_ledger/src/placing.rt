@@ -2,17 +2,17 @@
 ghost use Rattle.std.specs.Prelude.{◌≡◌, ◌↔◌, ◌+◌, ◌-◌, ◌<◌, ◌≤◌, ◌^◌, List, length, IfOk, IsTrue, true, if◌then◌else◌};
 ghost use Rattle.cmc_objects.specs.declared.entry.Entry.{Entry as EntryValue};
 ghost use Rattle.cmc_objects.specs.Requests as requests;
-ghost use Rattle.cmc_objects.specs.Watching as tables;
+ghost use Rattle.cmc_objects.specs.Informers as tables;
 ghost use Rattle.cmc_model.specs.Histories.{Setting};
 ghost use Rattle.cmc_rules.specs.Legality.{IsBegin, IsCaller, IsDelivery, IsListing, IsOpen};
 ghost use Rattle.cmc_rules.specs.Passes.{open_pass};
 ghost use Rattle.cmc_rules.specs.Positions.{position_of};
 ghost use Rattle.cmc_audit_state.specs.OpenRows.{IsOn};
-ghost use Rattle.cmc_audit_state.specs.Standing.{standing_of};
-ghost use Rattle.cmc_audit_ledger.specs.Calling.{HasBegun};
-ghost use Rattle.cmc_audit_ledger.specs.Following.{IsLedgerOf};
-ghost use Rattle.cmc_audit_ledger.specs.Placing as words;
-ghost use Rattle.cmc_audit_ledger.specs.Placing.{IsBeyond, IsNext, IsTick, HasRunningInformer, IsInWindow};
+ghost use Rattle.cmc_audit_state.specs.Standings.{standing_of};
+ghost use Rattle.cmc_audit_ledger.specs.CallRows.{HasBegun};
+ghost use Rattle.cmc_audit_ledger.specs.Ledgers.{IsLedgerOf};
+ghost use Rattle.cmc_audit_ledger.specs.Positions as words;
+ghost use Rattle.cmc_audit_ledger.specs.Positions.{IsBeyond, IsNext, IsTick, HasRunningInformer, IsInWindow};
 
 use crate::ledger::Ledger;
 use cmc_audit_state::at_kind;

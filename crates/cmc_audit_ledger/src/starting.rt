@@ -1,7 +1,7 @@
 //! How the standings of roles change, and the row of a pass that begins.
 ghost use Rattle.std.specs.Prelude.{◌≡◌, IfOk, nat_le, if◌then◌else◌};
 ghost use Rattle.cmc_rules.specs.Positions.{position_of};
-ghost use Rattle.cmc_audit_ledger.specs.Starting.{IsFirst, Starts, Stops, MovesPosition};
+ghost use Rattle.cmc_audit_ledger.specs.Starts.{IsFirst, Starts, Stops, MovesPosition};
 
 use cmc_audit_state::{Row, Standing, Standings, Yeses, put_at_kind};
 use cmc_meta::{Key, Kind};

@@ -14,8 +14,8 @@ use Rattle.cmc_model.specs.Objects.{object_at}
 use Rattle.cmc_model.specs.Versions.{IsVersion, uid_of}
 use Rattle.cmc_model.specs.Writes.{oldest, of_kind}
 use Rattle.cmc_model.proofs.Versions.{standing, version_of_kind, version_of_oldest}
-use Rattle.cmc_rules.specs.Raising.{stated_in, stated_revision, newer_of, last_version, revision_of_uid}
-use Rattle.cmc_rules.specs.Viewing.{is_owned, owned_in, requests_of}
+use Rattle.cmc_rules.specs.Revisions.{stated_in, stated_revision, newer_of, last_version, revision_of_uid}
+use Rattle.cmc_rules.specs.Views.{is_owned, owned_in, requests_of}
 use Rattle.cmc_audit_state.specs.declared.indexes.Indexes.{Indexes}
 use Rattle.cmc_audit_state.specs.Journaled.{cached, versions_in, versions_under, is_kept, keys_under, is_request_of, revision_noted, revision_under_uid, has_noted_uid, denies, IsIndexOfWrites}
 use Rattle.cmc_audit_state.proofs.Picking.{picked_by_keys}

@@ -14,7 +14,7 @@ use Rattle.cmc_model.specs.declared.write.Write.{Write}
 use Rattle.cmc_model.specs.Objects.{Objects}
 use Rattle.cmc_model.specs.Versions.{IsVersion, uid_of}
 use Rattle.cmc_model.specs.Writes.{contents, oldest, of_kind}
-use Rattle.cmc_rules.specs.Raising.{stated_revision, revision_of_uid}
+use Rattle.cmc_rules.specs.Revisions.{stated_revision, revision_of_uid}
 use Rattle.cmc_audit_state.specs.declared.indexes.Indexes.{Indexes}
 
 -- the objects of the kind after the first p of the writes

@@ -1,4 +1,4 @@
-pub mod Standing
+pub mod Standings
 pub mod Heard
 pub mod Journaled
 pub mod OpenRows

@@ -3,7 +3,7 @@ ghost use Rattle.std.specs.Prelude.{◌≡◌, ◌∷◌, ◌+◌, ◌||◌, [],
 ghost use Rattle.cmc_meta.specs.declared.key.Key.{Key as KeyValue};
 ghost use Rattle.cmc_objects.specs.Requests as requests;
 ghost use Rattle.cmc_model.specs.declared.write.Write.{Write as WriteValue};
-ghost use Rattle.cmc_rules.specs.Raising as raising;
+ghost use Rattle.cmc_rules.specs.Revisions as raising;
 ghost use Rattle.cmc_audit_state.specs.Journaled.{IsIndexOfWrites, denies, is_kept, has_noted_uid, is_request_of, revision_noted, revision_under_uid};
 
 use crate::denied::Denied;

@@ -5,8 +5,8 @@ ghost use Rattle.cmc_meta.specs.declared.key.Kind.TheVariants as kinds;
 ghost use Rattle.cmc_model.specs.Objects.{object_at};
 ghost use Rattle.cmc_model.specs.Writes as spec;
 ghost use Rattle.cmc_rules.specs.Legality.{IsOfKind};
-ghost use Rattle.cmc_rules.specs.Raising.{revision_of_uid};
-ghost use Rattle.cmc_rules.specs.Viewing as seen;
+ghost use Rattle.cmc_rules.specs.Revisions.{revision_of_uid};
+ghost use Rattle.cmc_rules.specs.Views as seen;
 ghost use Rattle.cmc_audit_state.specs.Journaled.{cached, is_denied_uid, has_owner_uid, object_left};
 
 use crate::indexes::Indexes;

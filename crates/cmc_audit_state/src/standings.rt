@@ -5,7 +5,7 @@ ghost use Rattle.cmc_objects.specs.declared.role.Role.{Role as RoleValue};
 ghost use Rattle.cmc_model.specs.Histories.{role_eq};
 ghost use Rattle.cmc_rules.specs.Positions.{position_of};
 ghost use Rattle.cmc_rules.specs.Memory.{with_position};
-ghost use Rattle.cmc_audit_state.specs.Standing.{first_standing, standing_of};
+ghost use Rattle.cmc_audit_state.specs.Standings.{first_standing, standing_of};
 
 use cmc_meta::Kind;
 use cmc_objects::{Positions, Role};
@@ -47,7 +47,7 @@ impl Model for Standings {
 impl Standings {
     /// The roles at the beginning: those of the list run, all others are stopped, and nobody was told of anything. An
     /// error is one of memory.
-    #[tactic(auto, unfolding(crate::specs::Standing::standing_of))]
+    #[tactic(auto, unfolding(crate::specs::Standings::standing_of))]
     pub fn new(alloc: Global, running: &[Role]) -> Result<Standings, AllocError>
         ensures { IfOk result (λ t. (r : RoleValue) → standing_of t r ≡ first_standing (list_any (λ role. role_eq role r) running.now)) }
     {
@@ -65,7 +65,7 @@ impl Standings {
     }
 
     /// How the role stands.
-    #[tactic(auto, unfolding(crate::specs::Standing::standing_of))]
+    #[tactic(auto, unfolding(crate::specs::Standings::standing_of))]
     pub fn get(&self, role: Role) -> Standing
         ensures { result ≡ standing_of self.now role }
     {
@@ -73,7 +73,7 @@ impl Standings {
     }
 
     /// Lets the role stand so, and changes no other. It takes no memory.
-    #[tactic(auto, unfolding(crate::specs::Standing::standing_of))]
+    #[tactic(auto, unfolding(crate::specs::Standings::standing_of))]
     pub fn set(&mut self, role: Role, standing: Standing)
         ensures { (r : RoleValue) → standing_of self.new r ≡ (if role_eq role r then standing else standing_of self.old r) }
     {

@@ -22,14 +22,14 @@ use Rattle.cmc_audit_state.specs.declared.row.Version.{Version}
 use Rattle.cmc_audit_state.specs.Heard.{approved, last_judged, has_found, judged_version, saved}
 use Rattle.cmc_audit_state.specs.OpenRows.{open_row_at}
 use Rattle.cmc_audit_ledger.specs.declared.ledger.Ledger.{Ledger}
-use Rattle.cmc_audit_ledger.specs.Following.{IsLedgerOf, IsRowOf}
+use Rattle.cmc_audit_ledger.specs.Ledgers.{IsLedgerOf, IsRowOf}
 use Rattle.cmc_audit_clauses.specs.declared.clause.Clause.{Clause}
 use Rattle.cmc_audit_clauses.specs.declared.clause.Clause.TheVariants as clauses
 use Rattle.cmc_audit_clauses.specs.Clauses.{Holds, rank}
 use Rattle.cmc_audit_clauses.proofs.GoodWrites.{pass_asks}
-use Rattle.cmc_audit_steps.specs.Failing.{IsOfRequest, MayOrder, asked_version}
+use Rattle.cmc_audit_steps.specs.Failures.{IsOfRequest, MayOrder, asked_version}
 use Rattle.cmc_audit_steps.specs.Meant.{IsNamedEntry, IsNamedOrder}
-use Rattle.cmc_audit_steps.specs.Stepping.{AreKept, FailsAt, IsCleanLedger, FindsClause}
+use Rattle.cmc_audit_steps.specs.Steps.{AreKept, FailsAt, IsCleanLedger, FindsClause}
 use Rattle.cmc_audit_steps.proofs.Going.{answered, goes}
 use Rattle.cmc_audit_steps.proofs.Naming.{named_order}
 

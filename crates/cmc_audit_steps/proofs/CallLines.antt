@@ -14,13 +14,13 @@ use Rattle.cmc_lines.specs.declared.line.PrintedLine.TheVariants as lines
 use Rattle.cmc_lines.specs.declared.line.PrintedReply.{PrintedReply}
 use Rattle.cmc_lines.specs.Shown.{line_of_entry, shown_given, shown_name, shown_reply}
 use Rattle.cmc_audit_ledger.specs.declared.ledger.Ledger.{Ledger}
-use Rattle.cmc_audit_ledger.specs.Following.{IsLedgerOf}
+use Rattle.cmc_audit_ledger.specs.Ledgers.{IsLedgerOf}
 use Rattle.cmc_audit_clauses.specs.declared.clause.Clause.{Clause}
-use Rattle.cmc_audit_calls.specs.Reading.{HasCallNames, IsRead, Shows, bare_call}
+use Rattle.cmc_audit_calls.specs.CallsOfLines.{HasCallNames, IsRead, Shows, bare_call}
 use Rattle.cmc_audit_calls.proofs.OneReply.{one_reply}
 use Rattle.cmc_audit_calls.proofs.ReadAgain.{read_again, read_so}
 use Rattle.cmc_audit_steps.specs.Meant.{IsNamedEntry, IsStoresReply}
-use Rattle.cmc_audit_steps.specs.Stepping.{AreKept, Calls, CallsOn, FailsAt, FindsClause, Steps}
+use Rattle.cmc_audit_steps.specs.Steps.{AreKept, Calls, CallsOn, FailsAt, FindsClause, Steps}
 use Rattle.cmc_audit_steps.proofs.Going.{answered, goes}
 
 -- what a line says of a call

@@ -33,20 +33,20 @@ use Rattle.cmc_audit_state.specs.Heard.{approved, last_judged, has_found, saved}
 use Rattle.cmc_audit_state.specs.Journaled.{is_denied_uid}
 use Rattle.cmc_audit_state.specs.OpenRows.{Opened, open_row_at}
 use Rattle.cmc_audit_ledger.specs.declared.ledger.Ledger.{Ledger}
-use Rattle.cmc_audit_ledger.specs.Calling.{IsServedBy}
-use Rattle.cmc_audit_ledger.specs.Following.{IsLedgerOf, IsRowOf}
+use Rattle.cmc_audit_ledger.specs.CallRows.{IsServedBy}
+use Rattle.cmc_audit_ledger.specs.Ledgers.{IsLedgerOf, IsRowOf}
 use Rattle.cmc_audit_clauses.specs.declared.clause.Clause.{Clause}
 use Rattle.cmc_audit_clauses.specs.declared.clause.Clause.TheVariants as clauses
 use Rattle.cmc_audit_clauses.specs.Clauses.{Holds, IsApproval, IsIssue, rank}
 use Rattle.cmc_audit_clauses.specs.Kept.{IsKeptApproval, IsKeptWrite, KeepsOrRaises, OnBoth, SameRevision, is_status_update}
 use Rattle.cmc_audit_clauses.proofs.GoodIssues.{DeniesNoMore, KeptRow}
 use Rattle.cmc_audit_clauses.proofs.GoodWrites.{pass_approves, pass_issues, pass_raises, user_leaves}
-use Rattle.cmc_audit_calls.specs.Reading.{bare_call}
+use Rattle.cmc_audit_calls.specs.CallsOfLines.{bare_call}
 use Rattle.cmc_audit_calls.proofs.Bare.{call_key_same, replied, replied_back, settled_same, stored_same}
 use Rattle.cmc_audit_calls.proofs.OneReply.{one_reply}
-use Rattle.cmc_audit_steps.specs.Failing.{CallFails, PassFails, RowFails, UserFails, WriteFails}
+use Rattle.cmc_audit_steps.specs.Failures.{CallFails, PassFails, RowFails, UserFails, WriteFails}
 use Rattle.cmc_audit_steps.specs.Meant.{IsStoresReply}
-use Rattle.cmc_audit_steps.specs.Stepping.{Calls, CallsOn, FindsClause}
+use Rattle.cmc_audit_steps.specs.Steps.{Calls, CallsOn, FindsClause}
 use Rattle.cmc_audit_steps.proofs.SameCall.{follows_bare, reply_same}
 
 -- ---- the reply

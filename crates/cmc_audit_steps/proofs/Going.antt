@@ -8,12 +8,12 @@ use Rattle.cmc_model.specs.Verdicts.{IsAnswered}
 use Rattle.cmc_lines.specs.declared.line.PrintedLine.{PrintedLine}
 use Rattle.cmc_lines.specs.Shown.{line_of_entry}
 use Rattle.cmc_audit_ledger.specs.declared.ledger.Ledger.{Ledger}
-use Rattle.cmc_audit_ledger.specs.Following.{IsLedgerOf}
+use Rattle.cmc_audit_ledger.specs.Ledgers.{IsLedgerOf}
 use Rattle.cmc_audit_clauses.specs.declared.clause.Clause.{Clause}
 use Rattle.cmc_audit_clauses.specs.declared.clause.Clause.TheVariants as clauses
 use Rattle.cmc_audit_clauses.specs.Clauses.{Holds, IsPlaced}
 use Rattle.cmc_audit_steps.specs.Meant.{AreNamedEntries, IsMeant, IsNamedEntry}
-use Rattle.cmc_audit_steps.specs.Stepping.{AreKept, IsClean, IsCleanLedger, FindsClause}
+use Rattle.cmc_audit_steps.specs.Steps.{AreKept, IsClean, IsCleanLedger, FindsClause}
 
 -- where nothing fails, each call is answered as the store answers it
 pub answered : (s : Setting) (h : List Entry) → IsClean s h → IsAnswered s h

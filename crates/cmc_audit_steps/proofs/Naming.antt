@@ -26,7 +26,7 @@ use Rattle.cmc_lines.specs.declared.line.PrintedOrder.TheVariants as asked
 use Rattle.cmc_lines.specs.Shown.{shown_order}
 use Rattle.cmc_lines.proofs.EntryLike.{order_like, request_like, request_named}
 use Rattle.cmc_audit_clauses.proofs.GoodIssues.{lawful, one_version}
-use Rattle.cmc_audit_steps.specs.Failing.{IsOfRequest}
+use Rattle.cmc_audit_steps.specs.Failures.{IsOfRequest}
 use Rattle.cmc_audit_steps.specs.Meant.{IsNamedOrder, IsVersionNamed}
 
 -- a written version of this number, under whatever key

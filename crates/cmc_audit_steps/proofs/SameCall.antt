@@ -14,13 +14,13 @@ use Rattle.cmc_model.specs.declared.write.Write.{Write}
 use Rattle.cmc_model.specs.Replies.{State, is_accepted, settled}
 use Rattle.cmc_model.specs.Histories.{Setting, moment, state}
 use Rattle.cmc_model.specs.Writes.{last_under, write_of, writes}
-use Rattle.cmc_rules.specs.Issuing.{issuing}
+use Rattle.cmc_rules.specs.Issuance.{issuing}
 use Rattle.cmc_rules.specs.Passes.{called, open_pass, stage_by, is_temporary_act}
 use Rattle.cmc_lines.specs.Shown.{shown_object, shown_reply}
 use Rattle.cmc_audit_state.specs.Heard.{finds, has_found, is_by, is_lasting, is_served, saved, writes_lasting}
 use Rattle.cmc_audit_ledger.specs.declared.ledger.Ledger.{Ledger}
-use Rattle.cmc_audit_ledger.specs.Following.{IsLedgerOf, IsLedgerOfSaid, said}
-use Rattle.cmc_audit_calls.specs.Reading.{bare_call}
+use Rattle.cmc_audit_ledger.specs.Ledgers.{IsLedgerOf, IsLedgerOfSaid, said}
+use Rattle.cmc_audit_calls.specs.CallsOfLines.{bare_call}
 use Rattle.cmc_audit_calls.proofs.Bare.{after_same, call_key_same, settled_same, stored_same}
 
 write_same : (now : ℤ) (st : State) (q : Call) (r : Reply) → write_of now st (settled (bare_call q) r) ≡ write_of now st (settled q r)

@@ -1,3 +1,3 @@
 pub mod Meant
-pub mod Stepping
-pub mod Failing
+pub mod Steps
+pub mod Failures

@@ -14,7 +14,7 @@ use Rattle.cmc_model.specs.Replies.{IsReply}
 use Rattle.cmc_model.specs.Versions.{HasVersion}
 use Rattle.cmc_lines.specs.declared.line.PrintedLine.{PrintedLine}
 use Rattle.cmc_lines.specs.Shown.{line_of_entry, shown_reply}
-use Rattle.cmc_audit_calls.specs.Reading.{HasCallNames}
+use Rattle.cmc_audit_calls.specs.CallsOfLines.{HasCallNames}
 
 -- A reply that shows as the store's does is the store's: what is found is the object that is there.
 abbrev pub IsStoresReply : Setting → List Entry → Call → Reply → Type 0

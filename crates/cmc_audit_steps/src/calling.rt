@@ -5,8 +5,8 @@ ghost use Rattle.cmc_model.specs.Replies.{IsReply};
 ghost use Rattle.cmc_lines.specs.declared.line.PrintedLine.TheVariants as lines;
 ghost use Rattle.cmc_audit_state.specs.declared.row.Row.{Row as RowValue};
 ghost use Rattle.cmc_audit_state.specs.OpenRows.{open_row_at};
-ghost use Rattle.cmc_audit_ledger.specs.Calling.{IsServedBy};
-ghost use Rattle.cmc_audit_steps.specs.Stepping.{Calls, Steps};
+ghost use Rattle.cmc_audit_ledger.specs.CallRows.{IsServedBy};
+ghost use Rattle.cmc_audit_steps.specs.Steps.{Calls, Steps};
 
 use crate::failing::call_fails;
 use cmc_audit_calls::{read_call, shows};

@@ -4,7 +4,7 @@ ghost use Rattle.std.specs.Prelude.{◌≡◌, IfOk, ℕ, Some, true};
 ghost use Rattle.cmc_objects.specs.Requests.{is_run_time};
 ghost use Rattle.cmc_audit_state.specs.declared.row.Row.{Row as RowValue};
 ghost use Rattle.cmc_audit_state.specs.OpenRows.{open_row_at};
-ghost use Rattle.cmc_audit_steps.specs.Failing.{CallFails, RowFails, UserFails, WriteFails};
+ghost use Rattle.cmc_audit_steps.specs.Failures.{CallFails, RowFails, UserFails, WriteFails};
 
 use cmc_audit_clauses::{
     Clause, approves_well, is_write, leaves_revision, may_change, raises_well,

@@ -3,7 +3,7 @@ ghost use Rattle.std.specs.Prelude.{◌≡◌, ◌-◌, ◌<◌, ◌≤◌, ◌^
 ghost use Rattle.cmc_objects.specs.Requests.{is_run_time};
 ghost use Rattle.cmc_audit_state.specs.declared.row.Row.{Row as RowValue};
 ghost use Rattle.cmc_audit_state.specs.OpenRows.{open_row_at};
-ghost use Rattle.cmc_audit_steps.specs.Stepping.{Steps};
+ghost use Rattle.cmc_audit_steps.specs.Steps.{Steps};
 
 use crate::asking::ask;
 use crate::calling::called;

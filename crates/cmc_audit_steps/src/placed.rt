@@ -3,7 +3,7 @@ ghost use Rattle.std.specs.Prelude.{◌≡◌, ◌-◌, ◌<◌, ◌≤◌, ◌^
 ghost use Rattle.cmc_objects.specs.declared.entry.Cause.{Cause as CauseValue};
 ghost use Rattle.cmc_objects.specs.declared.orders.Signing.{Signing as SigningValue};
 ghost use Rattle.cmc_lines.specs.declared.line.PrintedLine.TheVariants as lines;
-ghost use Rattle.cmc_audit_steps.specs.Stepping.{Steps};
+ghost use Rattle.cmc_audit_steps.specs.Steps.{Steps};
 
 use cmc_audit_clauses::Clause;
 use cmc_audit_ledger::Ledger;

@@ -8,7 +8,7 @@ use Rattle.cmc_objects.specs.declared.role.Role.{Role}
 use Rattle.cmc_objects.specs.declared.role.Role.TheVariants.{Trigger, KeyManager, RequestManager, Approver, Issuer, Issuing, Readiness, Revision}
 use Rattle.cmc_objects.specs.Roles.{role_rank}
 use Rattle.cmc_model.specs.Histories.{role_eq}
-use Rattle.cmc_rules.specs.Viewing.{Caches}
+use Rattle.cmc_rules.specs.Views.{Caches}
 use Rattle.cmc_caches.specs.Told.{caches_of, empty_caches}
 
 -- where eight rows are those of roles that were told nothing

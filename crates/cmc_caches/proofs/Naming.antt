@@ -21,7 +21,7 @@ use Rattle.cmc_model.specs.Versions.{IsVersion}
 use Rattle.cmc_model.specs.Writes.{is_known, kind_eq, of_kind, oldest}
 use Rattle.cmc_meta.proofs.KeyOrder.{key_cmp-total}
 use Rattle.cmc_model.proofs.Versions.{standing}
-use Rattle.cmc_objects.specs.Watching.{kind_of_work, looks_at_next, looks_at_requests, looks_at_secret, works_on_requests}
+use Rattle.cmc_objects.specs.Informers.{kind_of_work, looks_at_next, looks_at_requests, looks_at_secret, works_on_requests}
 use Rattle.cmc_informer.specs.Caches.{has_uid}
 use Rattle.cmc_informer.proofs.OneMark.{key_tie, same_key}
 use Rattle.cmc_caches.specs.Affected.{AddsExisting, AreLeft, AreNamed, ExistUnderNamed, is_among}

@@ -8,7 +8,7 @@ use Rattle.cmc_objects.specs.declared.certificate.Certificate.{Certificate}
 use Rattle.cmc_objects.specs.declared.object.Object.{Object}
 use Rattle.cmc_objects.specs.declared.object.Object.TheVariants.{Cert, Request, Secret}
 use Rattle.cmc_model.specs.Objects.{Objects, object_at}
-use Rattle.cmc_rules.specs.Viewing.{is_owned, has_next_label, next_in, owned_in, next_of, requests_of}
+use Rattle.cmc_rules.specs.Views.{is_owned, has_next_label, next_in, owned_in, next_of, requests_of}
 use Rattle.cmc_informer.specs.Caches.{is_owned_by, names}
 use Rattle.cmc_informer.specs.Indexes.{AreKeys}
 use Rattle.cmc_caches.proofs.Picking.{picked_by_keys}

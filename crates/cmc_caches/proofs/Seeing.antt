@@ -11,8 +11,8 @@ use Rattle.cmc_objects.specs.declared.object.Object.{Object}
 use Rattle.cmc_objects.specs.declared.object.Object.TheVariants.{Cert, Request, Secret}
 use Rattle.cmc_objects.specs.declared.role.Role.{Role}
 use Rattle.cmc_model.specs.Objects.{Objects, object_at}
-use Rattle.cmc_objects.specs.Watching.{works_on_requests, looks_at_secret, looks_at_next, looks_at_requests}
-use Rattle.cmc_rules.specs.Viewing.{Caches, certificate_in, certificate_at, request_in, request_at, secret_in, target_at, next_in, owned_in, next_of, requests_of, has_next_label, of_certificate, views_of, views_in}
+use Rattle.cmc_objects.specs.Informers.{works_on_requests, looks_at_secret, looks_at_next, looks_at_requests}
+use Rattle.cmc_rules.specs.Views.{Caches, certificate_in, certificate_at, request_in, request_at, secret_in, target_at, next_in, owned_in, next_of, requests_of, has_next_label, of_certificate, views_of, views_in}
 use Rattle.cmc_informer.specs.Caches.{has_uid, is_owned_by, is_targeting}
 use Rattle.cmc_caches.proofs.Picking.{picked_alike}
 use Rattle.cmc_caches.specs.Affected.{AreListedBySecret, AreListedByUid, AreSameBut, AreSameButOf, IsForeign, SeesSame, SeesSameNext, SeesSameRequests, SeesSameTarget, is_among, is_uid_among}

@@ -7,7 +7,7 @@ use Rattle.cmc_objects.specs.declared.entry.Entry.{Entry}
 use Rattle.cmc_model.specs.Histories.{Setting}
 use Rattle.cmc_model.specs.Writes.{writes}
 use Rattle.cmc_rules.specs.Positions.{positions}
-use Rattle.cmc_rules.specs.Viewing.{views_in, views_of, views}
+use Rattle.cmc_rules.specs.Views.{views_in, views_of, views}
 use Rattle.cmc_caches.specs.Told.{caches_at}
 
 pub views-told : (s : Setting) (h : List Entry) (role : Role) (key : Key) → views_in role (caches_at (writes s h) (positions h role)) key ≡ views s h role key

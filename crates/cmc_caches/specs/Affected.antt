@@ -13,8 +13,8 @@ use Rattle.cmc_model.specs.declared.write.Write.{Write}
 use Rattle.cmc_model.specs.Objects.{Objects, object_at}
 use Rattle.cmc_model.specs.Versions.{uid_of, IsVersion}
 use Rattle.cmc_model.specs.Writes.{contents, oldest, of_kind, is_known}
-use Rattle.cmc_objects.specs.Watching.{looks_at_secret, looks_at_next, looks_at_requests}
-use Rattle.cmc_rules.specs.Viewing.{Caches, certificate_at, target_at, next_of, requests_of, views_in}
+use Rattle.cmc_objects.specs.Informers.{looks_at_secret, looks_at_next, looks_at_requests}
+use Rattle.cmc_rules.specs.Views.{Caches, certificate_at, target_at, next_of, requests_of, views_in}
 use Rattle.cmc_informer.specs.Caches.{has_uid, is_owned_by, is_targeting}
 
 abbrev pub is_among : List Key → Key → Bool

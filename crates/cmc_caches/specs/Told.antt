@@ -8,7 +8,7 @@ use Rattle.cmc_objects.specs.Roles.{role_rank}
 use Rattle.cmc_model.specs.declared.write.Write.{Write}
 use Rattle.cmc_model.specs.Objects.{Objects, no_objects}
 use Rattle.cmc_model.specs.Writes.{contents, oldest, of_kind}
-use Rattle.cmc_rules.specs.Viewing.{Caches}
+use Rattle.cmc_rules.specs.Views.{Caches}
 
 abbrev pub empty_caches : Caches
 empty_caches = record { certificates = no_objects; requests = no_objects; secrets = no_objects }

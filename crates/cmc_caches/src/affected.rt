@@ -2,7 +2,7 @@
 ghost use Rattle.std.specs.Prelude.{◌≡◌, ◌≤◌, IfOk, OnOk, length, reverse};
 ghost use Rattle.cmc_meta.specs.declared.key.Kind.TheVariants as kinds;
 ghost use Rattle.cmc_model.specs.Objects.{Objects};
-ghost use Rattle.cmc_objects.specs.Watching.{kind_of_work};
+ghost use Rattle.cmc_objects.specs.Informers.{kind_of_work};
 ghost use Rattle.cmc_caches.specs.Told.{cache_of, with_cached};
 ghost use Rattle.cmc_caches.specs.Affected.{AreNamed, IsEachUidOfOneKey, KeepsKeys, SeesSame, SeesSameNext, SeesSameRequests, SeesSameTarget, ExistUnderNamed, left_by};
 

@@ -3,8 +3,8 @@ ghost use Rattle.std.specs.Prelude.{◌≡◌, ◌<◌, ◌≤◌, IfOk, OnOk, O
 ghost use Rattle.cmc_objects.specs.declared.role.Role.{Role as RoleValue};
 ghost use Rattle.cmc_model.specs.Histories.{role_eq};
 ghost use Rattle.cmc_model.specs.Writes as spec;
-ghost use Rattle.cmc_objects.specs.Watching.{kind_of_work};
-ghost use Rattle.cmc_rules.specs.Viewing.{views_in};
+ghost use Rattle.cmc_objects.specs.Informers.{kind_of_work};
+ghost use Rattle.cmc_rules.specs.Views.{views_in};
 ghost use Rattle.cmc_caches.specs.Told.{cache_of, caches_of, empty_caches, with_cached};
 ghost use Rattle.cmc_meta.specs.declared.key.Kind.TheVariants as kinds;
 ghost use Rattle.cmc_caches.specs.Affected.{AreLeft, AreNamed, HaveOwnUids, SeesSame};
@@ -33,7 +33,7 @@ impl Drop for Caches {
 impl Model for Caches {
     ghost use Rattle.std.specs.Coded.{codes};
     ghost use Rattle.std.specs.Prelude.{◌≡◌, List, length};
-    ghost use Rattle.cmc_rules.specs.Viewing.{Caches};
+    ghost use Rattle.cmc_rules.specs.Views.{Caches};
     ghost use Rattle.cmc_caches.specs.contracts.one_role.RoleCaches as role_row;
 
     ghost Value = { List Caches };

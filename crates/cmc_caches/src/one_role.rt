@@ -2,8 +2,8 @@
 ghost use Rattle.std.specs.Prelude.{◌≡◌, ◌≤◌, IfOk, OnOk, OnErr, length, reverse};
 ghost use Rattle.cmc_meta.specs.declared.key.Kind.TheVariants as kinds;
 ghost use Rattle.cmc_model.specs.Writes as spec;
-ghost use Rattle.cmc_objects.specs.Watching.{kind_of_work};
-ghost use Rattle.cmc_rules.specs.Viewing.{views_in};
+ghost use Rattle.cmc_objects.specs.Informers.{kind_of_work};
+ghost use Rattle.cmc_rules.specs.Views.{views_in};
 ghost use Rattle.cmc_caches.specs.Told.{cache_of, caches_at, empty_caches, with_cached};
 ghost use Rattle.cmc_caches.specs.Affected.{AreNamed, IsEachUidOfOneKey, SeesSame, ExistUnderNamed};
 
@@ -38,7 +38,7 @@ impl Drop for RoleCaches {
 impl Model for RoleCaches {
     ghost use Rattle.std.specs.Coded.{codes};
     ghost use Rattle.cmc_informer.specs.contracts.cache.Cache as cache_row;
-    ghost use Rattle.cmc_rules.specs.Viewing.{Caches};
+    ghost use Rattle.cmc_rules.specs.Views.{Caches};
 
     ghost Value = { Caches };
 

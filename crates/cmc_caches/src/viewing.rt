@@ -2,8 +2,8 @@
 ghost use Rattle.std.specs.List.{list_any};
 ghost use Rattle.std.specs.Prelude.{◌≡◌, ◌==◌, ◌&&◌, ◌++◌, Some, None, [], IfOk, OnOk, OnErr, codes, option_to_list, option_and_then, filter_map, if◌then◌else◌};
 ghost use Rattle.cmc_model.specs.Objects.{Objects, object_at};
-ghost use Rattle.cmc_objects.specs.Watching as tables;
-ghost use Rattle.cmc_rules.specs.Viewing as seen;
+ghost use Rattle.cmc_objects.specs.Informers as tables;
+ghost use Rattle.cmc_rules.specs.Views as seen;
 
 use cmc_informer::Cache;
 use cmc_meta::{Key, Kind, ObjectMeta, OwnerRef, Text};
@@ -344,7 +344,7 @@ fn request_seen(
     Ok(None)
 }
 
-#[tactic(auto, unfolding(cmc_rules::specs::Viewing::views_of))]
+#[tactic(auto, unfolding(cmc_rules::specs::Views::views_of))]
 fn views_of(
     alloc: Global,
     role: Role,
@@ -368,7 +368,7 @@ fn views_of(
 }
 
 /// What a role sees of the key among these objects of each kind.
-#[tactic(auto, unfolding(cmc_rules::specs::Viewing::views_in))]
+#[tactic(auto, unfolding(cmc_rules::specs::Views::views_in))]
 pub(crate) fn views_on(
     alloc: Global,
     role: Role,

@@ -10,7 +10,7 @@ use Rattle.std.specs.Map.{keys_of}
 use Rattle.std.proofs.lemmas.Cmp.{nat_list_cmp_total}
 use Rattle.serde_json.specs.Data.{Data, Members, no_members, member, put}
 use Rattle.cmc_meta.specs.PairLists.{with_text}
-use Rattle.cmc_cursor.specs.Reading.{Read, ◌>>=◌, under}
+use Rattle.cmc_cursor.specs.Members.{Read, ◌>>=◌, under}
 use Rattle.cmc_print.specs.Puts.{put_all}
 use Rattle.cmc_codec.specs.Laws.{IsBelow, IsOrdered}
 

@@ -6,7 +6,7 @@ use Rattle.std.proofs.lemmas.Slice.Eq.{bytes_eq-Decides}
 use Rattle.std.specs.Char.{is_ascii_digit}
 use Rattle.std.specs.Fmt.{decimal}
 use Rattle.cmc_time.specs.Durations.{hour_unit, minute_unit, second_unit, longest, duration_of, go_duration}
-use Rattle.cmc_time.specs.DurationReading.{part_at, sum_of, parts_seconds, duration_seconds}
+use Rattle.cmc_time.specs.DurationTexts.{part_at, sum_of, parts_seconds, duration_seconds}
 use Rattle.cmc_time.proofs.Digits.{prefix_len-digits, digits_value_nine, own}
 
 -- digits before a unit

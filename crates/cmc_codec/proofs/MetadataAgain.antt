@@ -9,7 +9,7 @@ use Rattle.cmc_meta.specs.declared.key.Kind.{Kind}
 use Rattle.cmc_meta.specs.declared.key.Kind.TheVariants.{Certificate, CertificateRequest, Secret}
 use Rattle.cmc_meta.specs.declared.owners.OwnerRef.{OwnerRef}
 use Rattle.cmc_meta.specs.declared.object_meta.ObjectMeta.{ObjectMeta}
-use Rattle.cmc_cursor.specs.Reading.{Read, ◌>>=◌, under, Field, fields_at, fields_of}
+use Rattle.cmc_cursor.specs.Members.{Read, ◌>>=◌, under, Field, fields_at, fields_of}
 use Rattle.cmc_cursor.specs.Readers.{text_at, bytes_at, name_at, flag_at, decimal_at, pairs_with, pairs_at, parts_with, parts_at, dropped_at, text_member}
 use Rattle.cmc_print.specs.Puts.{base64_text, map_tree, put_all}
 use Rattle.cmc_print.specs.Printed.{owner_tree, owners_tree, meta_members, meta_tree}

@@ -12,7 +12,7 @@ use Rattle.cmc_objects.specs.declared.certificate.CertSpec.{CertSpec}
 use Rattle.cmc_objects.specs.declared.request.RequestSpec.{RequestSpec}
 use Rattle.cmc_objects.specs.declared.object.Object.{Object}
 use Rattle.cmc_objects.specs.declared.object.Object.TheVariants.{Cert, Request, Secret}
-use Rattle.cmc_cursor.specs.Reading.{Read, Field, fields_at, fields_of, optional_at, required_at, at_end}
+use Rattle.cmc_cursor.specs.Members.{Read, Field, fields_at, fields_of, optional_at, required_at, at_end}
 use Rattle.cmc_cursor.specs.Readers.{text_at, word_at, bytes_at, parts_at, passes, text_member}
 use Rattle.cmc_print.specs.Puts.{base64_text, map_tree}
 use Rattle.cmc_print.specs.Printed.{meta_tree, spec_tree, request_tree, status_members, put_moments, request_status_members, head_members, object_tree}

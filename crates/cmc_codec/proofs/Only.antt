@@ -5,7 +5,7 @@ use Rattle.serde_json.specs.Data.{Data, string}
 use Rattle.serde_json.specs.View.{items_of}
 use Rattle.cmc_time.specs.Durations.{longest, go_duration}
 use Rattle.cmc_time.proofs.DurationLaws.{duration_again, go_duration_is}
-use Rattle.cmc_cursor.specs.Reading.{Read, ◌>>=◌, under, fields_of}
+use Rattle.cmc_cursor.specs.Members.{Read, ◌>>=◌, under, fields_of}
 use Rattle.cmc_cursor.specs.Readers.{found, name_at, short_text_at, small_count_at, flag_at}
 use Rattle.cmc_print.specs.Trees.{natural}
 use Rattle.cmc_print.specs.Puts.{strings}

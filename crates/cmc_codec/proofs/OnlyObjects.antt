@@ -17,7 +17,7 @@ use Rattle.cmc_objects.specs.declared.request.CertificateRequest.{CertificateReq
 use Rattle.cmc_objects.specs.declared.secret.Secret.{Secret as SecretObject}
 use Rattle.cmc_objects.specs.declared.object.Object.{Object}
 use Rattle.cmc_objects.specs.declared.object.Object.TheVariants as objects
-use Rattle.cmc_cursor.specs.Reading.{Path, Read, under, fields_of}
+use Rattle.cmc_cursor.specs.Members.{Path, Read, under, fields_of}
 use Rattle.cmc_cursor.specs.Readers.{word_at, name_at, pairs_at, parts_at}
 use Rattle.cmc_print.specs.Puts.{base64_text, map_tree, put_object}
 use Rattle.cmc_print.specs.Printed.{owner_tree, owners_tree, meta_tree, spec_tree, request_tree, status_members, request_status_members, head_members, object_tree}

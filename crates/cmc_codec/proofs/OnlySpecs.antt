@@ -9,7 +9,7 @@ use Rattle.cmc_objects.specs.declared.key_spec.Rotation.TheVariants as rotations
 use Rattle.cmc_objects.specs.declared.key_spec.KeySpec.{KeySpec}
 use Rattle.cmc_objects.specs.declared.certificate.CertSpec.{CertSpec}
 use Rattle.cmc_objects.specs.declared.request.RequestSpec.{RequestSpec}
-use Rattle.cmc_cursor.specs.Reading.{fields_of}
+use Rattle.cmc_cursor.specs.Members.{fields_of}
 use Rattle.cmc_cursor.specs.Readers.{name_at, short_text_at, small_count_at, bytes_at}
 use Rattle.cmc_print.specs.Trees.{natural}
 use Rattle.cmc_print.specs.Words.{algorithm_name, encoding_name, rotation_name}

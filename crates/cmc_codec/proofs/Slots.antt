@@ -7,7 +7,7 @@ use Rattle.std.specs.Ordering.{nat_cmp, match_ordering}
 use Rattle.std.specs.Cmp.Lexicographic.{slice_cmp}
 use Rattle.std.proofs.lemmas.Bool.{and_parts}
 use Rattle.serde_json.specs.Data.{Data, boolean, object, Members, no_members, member, put}
-use Rattle.cmc_cursor.specs.Reading.{Read, ◌>>=◌, under, fields_of, optional_at, required_at}
+use Rattle.cmc_cursor.specs.Members.{Read, ◌>>=◌, under, fields_of, optional_at, required_at}
 use Rattle.cmc_cursor.specs.Readers.{flag_at, sought_at}
 use Rattle.cmc_print.specs.Puts.{put_option, put_list, put_true, put_object}
 use Rattle.cmc_codec.specs.Given.{given_at, given_or, member_at, next_member_or, needed_at}

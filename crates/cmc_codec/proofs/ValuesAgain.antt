@@ -4,9 +4,9 @@ use Rattle.std.specs.Prelude.{decimal, if◌then◌else◌, IfSome}
 use Rattle.serde_json.specs.Data.{Data, null, boolean, number, string, array, object, Items, no_items, item}
 use Rattle.serde_json.specs.View.{items_of}
 use Rattle.cmc_time.specs.Durations.{IsDuration, longest, go_duration}
-use Rattle.cmc_time.specs.DurationReading.{duration_seconds}
+use Rattle.cmc_time.specs.DurationTexts.{duration_seconds}
 use Rattle.cmc_time.proofs.DurationLaws.{duration_again, duration_found, go_duration_is}
-use Rattle.cmc_cursor.specs.Reading.{Read, ◌>>=◌, under, Field, optional_at, required_at, must_exist}
+use Rattle.cmc_cursor.specs.Members.{Read, ◌>>=◌, under, Field, optional_at, required_at, must_exist}
 use Rattle.cmc_cursor.specs.Readers.{found, text_at, name_at, short_text_at, printable_at, count_at, small_count_at, sought_at}
 use Rattle.cmc_cursor.proofs.Always.{Always, so, failed, next, after, below}
 use Rattle.cmc_print.specs.Trees.{natural}

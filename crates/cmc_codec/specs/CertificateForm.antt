@@ -8,7 +8,7 @@ use Rattle.cmc_objects.specs.declared.key_spec.Rotation.TheVariants.{Always, Nev
 use Rattle.cmc_objects.specs.declared.key_spec.KeySpec.{KeySpec}
 use Rattle.cmc_objects.specs.declared.certificate.CertSpec.{CertSpec}
 use Rattle.cmc_objects.specs.declared.request.RequestSpec.{RequestSpec}
-use Rattle.cmc_cursor.specs.Reading.{Read, ◌>>=◌, Field, fields_at, at_end}
+use Rattle.cmc_cursor.specs.Members.{Read, ◌>>=◌, Field, fields_at, at_end}
 use Rattle.cmc_cursor.specs.Readers.{name_at, short_text_at, small_count_at, flag_at, bytes_at}
 use Rattle.cmc_codec.specs.Given.{text_list_at, clean_text_at, duration_at, choice_at, member_at, next_member_or, needed_at}
 use Rattle.cmc_codec.specs.declared.given.Wording.TheVariants.{Any, Printable, Address}

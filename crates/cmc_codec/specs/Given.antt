@@ -4,9 +4,9 @@ use Rattle.std.specs.declared.option.Option.{Option}
 use Rattle.std.specs.Str.{bytes_eq}
 use Rattle.serde_json.specs.Data.{Data, null, boolean, number, string, array, object, Items, no_items, item}
 use Rattle.cmc_meta.specs.Wordings.{is_clean}
-use Rattle.cmc_time.specs.DurationReading.{duration_seconds}
+use Rattle.cmc_time.specs.DurationTexts.{duration_seconds}
 use Rattle.cmc_x509_build.specs.Addresses.{address_at}
-use Rattle.cmc_cursor.specs.Reading.{Read, ◌>>=◌, under, Field, optional_at, required_at}
+use Rattle.cmc_cursor.specs.Members.{Read, ◌>>=◌, under, Field, optional_at, required_at}
 use Rattle.cmc_cursor.specs.Readers.{found, text_at, printable_at}
 use Rattle.cmc_codec.specs.declared.given.Wording.{Wording}
 use Rattle.cmc_codec.specs.declared.given.Wording.TheVariants.{Any, Printable, Address}

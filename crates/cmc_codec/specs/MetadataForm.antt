@@ -9,7 +9,7 @@ use Rattle.cmc_meta.specs.declared.key.Kind.{Kind}
 use Rattle.cmc_meta.specs.declared.key.Kind.TheVariants.{Certificate, CertificateRequest, Secret}
 use Rattle.cmc_meta.specs.declared.owners.OwnerRef.{OwnerRef}
 use Rattle.cmc_meta.specs.declared.object_meta.ObjectMeta.{ObjectMeta}
-use Rattle.cmc_cursor.specs.Reading.{Read, ◌>>=◌, under, Field, fields_at, must_exist}
+use Rattle.cmc_cursor.specs.Members.{Read, ◌>>=◌, under, Field, fields_at, must_exist}
 use Rattle.cmc_cursor.specs.Readers.{name_at, decimal_at, flag_at, pairs_at, text_member, sought_at, dropped_at}
 use Rattle.cmc_codec.specs.Given.{given_at, given_or}
 use Rattle.cmc_codec.specs.declared.metadata_in.Labelled.{Labelled}

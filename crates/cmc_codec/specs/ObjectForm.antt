@@ -6,7 +6,7 @@ use Rattle.serde_json.specs.Data.{Data}
 use Rattle.cmc_objects.specs.Objects.{no_cert_status, no_request_status}
 use Rattle.cmc_objects.specs.declared.object.Object.{Object}
 use Rattle.cmc_objects.specs.declared.object.Object.TheVariants.{Cert, Request, Secret}
-use Rattle.cmc_cursor.specs.Reading.{Read, Check, ◌>>=◌, Field, fields_at, optional_at, required_at, at_end}
+use Rattle.cmc_cursor.specs.Members.{Read, Check, ◌>>=◌, Field, fields_at, optional_at, required_at, at_end}
 use Rattle.cmc_cursor.specs.Readers.{text_at, word_at, parts_at, passes, text_member}
 use Rattle.cmc_codec.specs.Given.{next_member_or, needed_at}
 use Rattle.cmc_codec.specs.MetadataForm.{head_at}

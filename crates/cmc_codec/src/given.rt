@@ -2,7 +2,7 @@
 ghost use Rattle.std.specs.Prelude.{◌≡◌, [], None, decimal, false, is_some, map};
 ghost use Rattle.serde_json.specs.View.{view, items_view};
 ghost use Rattle.cmc_x509_build.specs.Addresses as addresses;
-ghost use Rattle.cmc_cursor.specs.Reading.{Gives, under};
+ghost use Rattle.cmc_cursor.specs.Members.{Gives, under};
 ghost use Rattle.cmc_cursor.specs.Readers.{bytes_at, flag_at, name_at, short_text_at, small_count_at};
 ghost use Rattle.cmc_cursor.specs.Seen.{shown};
 ghost use Rattle.cmc_codec.specs.Given.{address_text_at, worded_at, list_from, text_list_at, clean_text_at, duration_at, choice_at, member_at, next_member_or, needed_at};

@@ -1,7 +1,7 @@
 // The metadata of an object, read from JSON.
 ghost use Rattle.std.specs.Prelude.{◌≡◌, [], None, codes, false, map};
 ghost use Rattle.serde_json.specs.View.{view};
-ghost use Rattle.cmc_cursor.specs.Reading.{Gives};
+ghost use Rattle.cmc_cursor.specs.Members.{Gives};
 ghost use Rattle.cmc_cursor.specs.Readers.{decimal_at, flag_at, name_at, pairs_at};
 ghost use Rattle.cmc_cursor.specs.Seen.{shown};
 ghost use Rattle.cmc_codec.specs.Given.{given_or};

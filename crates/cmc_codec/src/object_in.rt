@@ -1,7 +1,7 @@
 // Objects, read from JSON: the kind decides the form.
 ghost use Rattle.std.specs.Prelude.{◌≡◌, [], codes, map, option_map};
 ghost use Rattle.serde_json.specs.View.{view};
-ghost use Rattle.cmc_cursor.specs.Reading.{Gives};
+ghost use Rattle.cmc_cursor.specs.Members.{Gives};
 ghost use Rattle.cmc_cursor.specs.Readers.{parts_at, text_at, word_at};
 ghost use Rattle.cmc_cursor.specs.Seen.{shown};
 ghost use Rattle.cmc_codec.specs.Given.{next_member_or, needed_at};

@@ -1,7 +1,7 @@
 // Owner references, read from JSON.
 ghost use Rattle.std.specs.Prelude.{◌≡◌, decimal, map};
 ghost use Rattle.serde_json.specs.View.{view, items_view};
-ghost use Rattle.cmc_cursor.specs.Reading.{Gives, under};
+ghost use Rattle.cmc_cursor.specs.Members.{Gives, under};
 ghost use Rattle.cmc_cursor.specs.Seen.{shown};
 ghost use Rattle.cmc_codec.specs.MetadataForm as forms;
 

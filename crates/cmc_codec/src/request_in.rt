@@ -1,7 +1,7 @@
 // The spec of a CertificateRequest, read from JSON.
 ghost use Rattle.std.specs.Prelude.{◌≡◌};
 ghost use Rattle.serde_json.specs.View.{view};
-ghost use Rattle.cmc_cursor.specs.Reading.{Gives};
+ghost use Rattle.cmc_cursor.specs.Members.{Gives};
 ghost use Rattle.cmc_codec.specs.CertificateForm as forms;
 
 use crate::certificate_in::{Api, Signing, read_signing};

@@ -4,7 +4,7 @@ use Rattle.std.specs.Prelude.{IfOk, Result, int_le}
 use Rattle.std.proofs.lemmas.List.{drop_all}
 use Rattle.serde_json.specs.View.{view, items_view}
 use Rattle.serde_json.specs.declared.value.Value.{Value}
-use Rattle.cmc_cursor.specs.Reading.{Gives, Read, ◌>>=◌, under}
+use Rattle.cmc_cursor.specs.Members.{Gives, Read, ◌>>=◌, under}
 use Rattle.cmc_cursor.specs.declared.error.BadField.{BadField}
 use Rattle.cmc_cursor.specs.declared.error.BadField.TheVariants as bad
 use Rattle.cmc_cursor.specs.Readers.{with_front}

@@ -2,7 +2,7 @@
 use Rattle.std.specs.Prelude.{◌≡◌, ℕ, List, [], codes, Ok, Err}
 use Rattle.std.specs.declared.result.Result.{Result}
 use Rattle.serde_json.specs.Data.{Data}
-use Rattle.cmc_cursor.specs.Reading.{Path, Read, text_of, in_words, ◌>>=◌, Field, fields_at, optional_at, at_end}
+use Rattle.cmc_cursor.specs.Members.{Path, Read, text_of, in_words, ◌>>=◌, Field, fields_at, optional_at, at_end}
 use Rattle.cmc_cursor.specs.Readers.{floats_at}
 use Rattle.cmc_material.specs.Lists.{member_or}
 use Rattle.cmc_scenario.specs.Scenarios.{faults_at, start_moment_at, size_at, usual_moment}

@@ -3,7 +3,7 @@ use Rattle.std.specs.Prelude.{◌≡◌, ℕ, ℤ, true, List, [], ◌∷◌, �
 use Rattle.std.specs.declared.option.Option.{Option}
 use Rattle.std.specs.Str.{bytes_eq}
 use Rattle.serde_json.specs.Data.{Data, null, boolean, number, string, array, object, Items, no_items, item}
-use Rattle.cmc_cursor.specs.Reading.{Read, ◌>>=◌, under, Field, fields_at, optional_at, required_at, at_end}
+use Rattle.cmc_cursor.specs.Members.{Read, ◌>>=◌, under, Field, fields_at, optional_at, required_at, at_end}
 use Rattle.cmc_cursor.specs.Readers.{count_at, text_member}
 use Rattle.cmc_codec.specs.ObjectForm as objects
 use Rattle.cmc_setup.specs.Setups.{last_moment}

@@ -1,7 +1,7 @@
 // The steps of a script of owner collection.
 ghost use Rattle.std.specs.Prelude.{◌≡◌, IfOk, int_le, true};
 ghost use Rattle.serde_json.specs.View.{view, items_view};
-ghost use Rattle.cmc_cursor.specs.Reading.{Gives};
+ghost use Rattle.cmc_cursor.specs.Members.{Gives};
 ghost use Rattle.cmc_cursor.specs.Seen.{shown_option};
 ghost use Rattle.cmc_setup.specs.Setups.{last_moment};
 ghost use Rattle.cmc_collect_form.specs.Steps as spec;

@@ -3,12 +3,12 @@ use Rattle.std.proofs.Common.{◌≡◌, ℕ, ℤ, suc, ◌+◌, ◌<◌, ◌≤
 use Rattle.std.proofs.lemmas.List.{drop_all}
 use Rattle.std.specs.Prelude.{int_le}
 use Rattle.cmc_setup.specs.Setups.{last_moment}
-use Rattle.cmc_collector.specs.Playing.{Collecting}
+use Rattle.cmc_collector.specs.Replays.{Collecting}
 use Rattle.cmc_collect_form.specs.Steps.{AreInTime, moment_after}
 use Rattle.cmc_collect_form.specs.declared.script.CollectScript.{CollectScript}
 use Rattle.cmc_collect_form.specs.declared.script.CollectStep.{CollectStep}
 use Rattle.cmc_collect_run.specs.Answers.{IsMadeBy, IsSpentBy}
-use Rattle.cmc_collect_run.specs.Running.{Made, SpendsEntries, Stepped, StopsAtLimit}
+use Rattle.cmc_collect_run.specs.Runs.{Made, SpendsEntries, Stepped, StopsAtLimit}
 
 -- what the steps that are left make of the collection, the whole script makes
 pub record IsRunSoFar (script : CollectScript) (steps : List CollectStep) (now : ℤ) (c : Collecting) : Type 0 where

@@ -6,11 +6,11 @@ use Rattle.cmc_collector.specs.declared.moves.CollectLack.{CollectLack}
 use Rattle.cmc_collector.specs.declared.moves.CollectMove.{CollectMove}
 use Rattle.cmc_collector.specs.declared.moves.Collected.{Collected}
 use Rattle.cmc_collector.specs.declared.moves.Collected.TheVariants.{Done, NotNow, Spent}
-use Rattle.cmc_collector.specs.Moving.{LeavesCollected, answer, answer_of, lack}
-use Rattle.cmc_collector.specs.Playing.{Collecting, on}
-use Rattle.cmc_collector.specs.Settling.{EndsAs, Settles}
+use Rattle.cmc_collector.specs.Moves.{LeavesCollected, answer, answer_of, lack}
+use Rattle.cmc_collector.specs.Replays.{Collecting, on}
+use Rattle.cmc_collector.specs.Settles.{EndsAs, Settles}
 use Rattle.cmc_collect_form.specs.declared.script.CollectStep.TheVariants.{Settle}
-use Rattle.cmc_collect_run.specs.Running.{IsMoved, IsStepped, MovedWith, collect_goes_on}
+use Rattle.cmc_collect_run.specs.Runs.{IsMoved, IsStepped, MovedWith, collect_goes_on}
 
 abbrev IsMovedWith : Option CollectLack → Bool → ℤ → CollectMove → Collecting → Collecting → Type 0
 IsMovedWith lack true now move old new = MovedWith lack now move old new

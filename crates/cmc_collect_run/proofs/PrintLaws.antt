@@ -9,7 +9,7 @@ use Rattle.cmc_meta.specs.declared.key.Kind.{Kind}
 use Rattle.cmc_print.specs.Trees.{natural, line_of}
 use Rattle.cmc_print.specs.Words.{kind_name}
 use Rattle.cmc_object_lines.proofs.Laws.{of_rows}
-use Rattle.cmc_writer.specs.Adding.{with_value, with_rows}
+use Rattle.cmc_writer.specs.Additions.{with_value, with_rows}
 use Rattle.cmc_writer.proofs.Placed.{is_none, is_put}
 use Rattle.cmc_writer.proofs.Written.{text_written}
 use Rattle.cmc_collector.specs.declared.entry.Moment.{Moment}

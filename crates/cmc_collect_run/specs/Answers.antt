@@ -2,12 +2,12 @@
 use Rattle.std.specs.Prelude.{◌≡◌, ℕ, List, Ok, Err}
 use Rattle.serde_json.specs.Data.{Data}
 use Rattle.cmc_report.specs.Text.{joined}
-use Rattle.cmc_collector.specs.Owning.{CollectsWell}
-use Rattle.cmc_collector.specs.Playing.{Collecting, on}
+use Rattle.cmc_collector.specs.Owners.{CollectsWell}
+use Rattle.cmc_collector.specs.Replays.{Collecting, on}
 use Rattle.cmc_collect_form.specs.Collections.{collect_at}
 use Rattle.cmc_collect_form.specs.declared.script.CollectScript.{CollectScript}
 use Rattle.cmc_collect_run.specs.Printed.{collect_lines}
-use Rattle.cmc_collect_run.specs.Running.{Made, SpendsEntries, first_collecting}
+use Rattle.cmc_collect_run.specs.Runs.{Made, SpendsEntries, first_collecting}
 use Rattle.cmc_collect_run.specs.declared.answering.NotCollected.{NotCollected}
 use Rattle.cmc_collect_run.specs.declared.answering.NotCollected.TheVariants as refusals
 use Rattle.cmc_collect_run.specs.declared.running.Ran.{Ran}

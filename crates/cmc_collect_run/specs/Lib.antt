@@ -1,3 +1,3 @@
-pub mod Running
+pub mod Runs
 pub mod Printed
 pub mod Answers

@@ -8,11 +8,11 @@ use Rattle.cmc_model.specs.Replies.{is_accepted}
 use Rattle.cmc_print.specs.Trees.{line_of, natural}
 use Rattle.cmc_print.specs.Words.{kind_name}
 use Rattle.cmc_report.specs.Trees.{call_tree, scenario_line_tree}
-use Rattle.cmc_writer.specs.Adding.{Row}
+use Rattle.cmc_writer.specs.Additions.{Row}
 use Rattle.cmc_collector.specs.declared.entry.CollectEntry.{CollectEntry}
 use Rattle.cmc_collector.specs.declared.entry.CollectEntry.TheVariants.{User, Deliver, List as Listed, Look, Delete}
 use Rattle.cmc_collector.specs.declared.entry.Moment.{Moment}
-use Rattle.cmc_collector.specs.Playing.{Collecting, on, owner_key, stored_objects}
+use Rattle.cmc_collector.specs.Replays.{Collecting, on, owner_key, stored_objects}
 
 -- what the cache of the kind is told, under the word for it
 unfoldable pub told_tree : List ℕ → ℕ → Kind → ℕ → Data

@@ -3,9 +3,9 @@ ghost use Rattle.std.specs.Prelude.{◌≡◌, [], Some, codes, IfOk, OnOk, stri
 ghost use Rattle.cmc_meta.specs.declared.key.Key.{Key as KeyValue};
 ghost use Rattle.cmc_objects.specs.declared.call.Call.TheVariants as calls;
 ghost use Rattle.cmc_print.specs.Trees.{line_of};
-ghost use Rattle.cmc_collector.specs.Playing as playing;
+ghost use Rattle.cmc_collector.specs.Replays as playing;
 ghost use Rattle.cmc_collect_run.specs.Printed.{collect_tree, count_rows, counts_tree, entry_tree, deletes, told_rows, told_tree};
-ghost use Rattle.cmc_writer.specs.Adding.{with_row, with_rows, with_value};
+ghost use Rattle.cmc_writer.specs.Additions.{with_row, with_rows, with_value};
 
 use cmc_collector::CollectEntry;
 use cmc_meta::{Key, Kind, OwnerRef};

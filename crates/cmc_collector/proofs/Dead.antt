@@ -10,7 +10,7 @@ use Rattle.cmc_model.specs.Objects.{object_at}
 use Rattle.cmc_model.specs.Writes.{contents}
 use Rattle.cmc_model.specs.Versions.{uid_of, IsVersion}
 use Rattle.cmc_model.proofs.Versions.{IsLawful, IsNew, IsHeir, lawful_object, versions_low, object_at-put}
-use Rattle.cmc_collector.specs.Owning.{IsGone}
+use Rattle.cmc_collector.specs.Owners.{IsGone}
 use Rattle.cmc_informer.proofs.OneMark.{same_key}
 
 -- an heir has the uid of what stood there

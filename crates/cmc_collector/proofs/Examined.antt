@@ -13,7 +13,7 @@ use Rattle.cmc_objects.specs.Objects.{version_of}
 use Rattle.cmc_model.specs.declared.write.Write.{Write}
 use Rattle.cmc_model.specs.Objects.{Objects, object_at}
 use Rattle.cmc_model.specs.Replies.{IsReply, is_accepted, settled}
-use Rattle.cmc_model.specs.Accepting.{IsFounded}
+use Rattle.cmc_model.specs.Acceptance.{IsFounded}
 use Rattle.cmc_model.specs.Histories.{Setting, moment, state, objects, accepted}
 use Rattle.cmc_model.specs.Verdicts.{IsAnswered}
 use Rattle.cmc_model.specs.Versions.{uid_of, HasVersion, IsVersion}
@@ -23,9 +23,9 @@ use Rattle.cmc_model.proofs.Versions.{IsLawful, lawful_called, standing}
 use Rattle.cmc_model.proofs.Writes.{writes_count, writes_leave}
 use Rattle.cmc_objects.specs.declared.call.Call.TheVariants as calls
 use Rattle.cmc_collector.specs.declared.examination.Examination.{Examination}
-use Rattle.cmc_collector.specs.Examining.{IsExamined, next_owner}
-use Rattle.cmc_collector.specs.Owning.{IsGone, IsDead, AreDead, IsGoodCollect, owners_of}
-use Rattle.cmc_collector.specs.Playing.{owner_key}
+use Rattle.cmc_collector.specs.Examinations.{IsExamined, next_owner}
+use Rattle.cmc_collector.specs.Owners.{IsGone, IsDead, AreDead, IsGoodCollect, owners_of}
+use Rattle.cmc_collector.specs.Replays.{owner_key}
 use Rattle.cmc_collector.proofs.Dead.{stays_gone, one_version}
 
 pub lawful : (s : Setting) (h : List Entry) → IsAnswered s h → IsLawful (writes s h)

@@ -13,11 +13,11 @@ use Rattle.cmc_meta.specs.Keys.{key_cmp}
 use Rattle.cmc_objects.specs.declared.object.Object.{Object}
 use Rattle.cmc_collector.specs.declared.examination.Examination.{Examination}
 use Rattle.cmc_collector.specs.declared.rows.Row.{Row}
-use Rattle.cmc_collector.specs.Caching.{are_gone, has_owners, is_orphan_in, has_any_owner}
-use Rattle.cmc_collector.specs.Examining.{current_of}
-use Rattle.cmc_collector.specs.Owning.{owners_of}
+use Rattle.cmc_collector.specs.CachePositions.{are_gone, has_owners, is_orphan_in, has_any_owner}
+use Rattle.cmc_collector.specs.Examinations.{current_of}
+use Rattle.cmc_collector.specs.Owners.{owners_of}
 use Rattle.cmc_collector.specs.Rows.{Rowed, has_examine_row, examination_of, examination_under}
-use Rattle.cmc_collector.specs.Settling.{FindsLeast}
+use Rattle.cmc_collector.specs.Settles.{FindsLeast}
 use Rattle.cmc_meta.proofs.KeyOrder.{key_cmp-total}
 use Rattle.cmc_informer.proofs.OneMark.{same_key}
 use Rattle.std.proofs.lemmas.Bool.{and_parts}

@@ -23,8 +23,8 @@ use Rattle.cmc_model.specs.Histories.{Setting, accepted, state}
 use Rattle.cmc_model.specs.Writes.{contents, kind_eq, last_under, objects_of, of_kind, oldest, write_of, writes}
 use Rattle.cmc_model.proofs.Writes.{objects_of-older, oldest-older}
 use Rattle.cmc_informer.specs.Indexes.{AreKeys}
-use Rattle.cmc_informer.specs.Informing.{Informed}
-use Rattle.cmc_informer.specs.Watching.{is_changed}
+use Rattle.cmc_informer.specs.Informers.{Informed}
+use Rattle.cmc_informer.specs.Watches.{is_changed}
 use Rattle.cmc_informer.proofs.OneMark.{equal_key}
 use Rattle.cmc_collector.specs.declared.entry.CollectEntry.{CollectEntry}
 use Rattle.cmc_collector.specs.declared.entry.CollectEntry.TheVariants as entries
@@ -33,11 +33,11 @@ use Rattle.cmc_collector.specs.declared.examination.Examination.{Examination}
 use Rattle.cmc_collector.specs.declared.moves.CollectMove.TheVariants.{User, Deliver, Examine}
 use Rattle.cmc_collector.specs.declared.moves.CollectLack.TheVariants.{NoOrphan}
 use Rattle.cmc_collector.specs.Caches.{AreCachesAt, Informers, IsInformerOf, Moves, informer_object, informer_of, position_in}
-use Rattle.cmc_collector.specs.Caching.{cached_object, has_any_owner, position}
-use Rattle.cmc_collector.specs.Examining.{current, examination, is_to_examine, examined_after, looked_from, next_owner}
+use Rattle.cmc_collector.specs.CachePositions.{cached_object, has_any_owner, position}
+use Rattle.cmc_collector.specs.Examinations.{current, examination, is_to_examine, examined_after, looked_from, next_owner}
 use Rattle.cmc_collector.specs.Kept.{IsCollectorOf}
-use Rattle.cmc_collector.specs.Moving.{IsStoreReply, IsCollected, IsDelete, IsEntry, IsExamineOf, IsOwnerLook, lack_of_delivery, delivery_entry, with_entry}
-use Rattle.cmc_collector.specs.Playing.{Collecting, with_call_at, on, owner_key, played, setting}
+use Rattle.cmc_collector.specs.Moves.{IsStoreReply, IsCollected, IsDelete, IsEntry, IsExamineOf, IsOwnerLook, lack_of_delivery, delivery_entry, with_entry}
+use Rattle.cmc_collector.specs.Replays.{Collecting, with_call_at, on, owner_key, played, setting}
 use Rattle.cmc_collector.specs.Rows.{Rowed, has_examine_row, examination_under}
 use Rattle.cmc_collector.specs.Watched.{Served, after_call}
 use Rattle.cmc_collector.proofs.Promise.{laws}

@@ -12,11 +12,11 @@ use Rattle.cmc_meta.specs.Keys.{key_cmp, key_eq}
 use Rattle.cmc_objects.specs.declared.object.Object.{Object}
 use Rattle.cmc_model.specs.Objects.{no_objects}
 use Rattle.cmc_model.specs.Writes.{contents, oldest}
-use Rattle.cmc_informer.specs.Informing.{Informed}
+use Rattle.cmc_informer.specs.Informers.{Informed}
 use Rattle.cmc_informer.proofs.OneMark.{equal_key, same_key}
 use Rattle.cmc_collector.specs.Caches.{IsInformerOf}
-use Rattle.cmc_collector.specs.Caching.{are_gone, is_gone}
-use Rattle.cmc_collector.specs.Playing.{owner_key}
+use Rattle.cmc_collector.specs.CachePositions.{are_gone, is_gone}
+use Rattle.cmc_collector.specs.Replays.{owner_key}
 
 -- ---- owners, one after the other
 

@@ -36,11 +36,11 @@ use Rattle.cmc_collector.specs.declared.moves.CollectMove.{CollectMove}
 use Rattle.cmc_collector.specs.declared.moves.CollectMove.TheVariants.{User, Deliver, Examine}
 use Rattle.cmc_collector.specs.declared.moves.CollectLack.{CollectLack}
 use Rattle.cmc_collector.specs.declared.moves.CollectLack.TheVariants.{Current, NotAWrite}
-use Rattle.cmc_collector.specs.Caching.{are_gone, cached_object, has_owners, is_gone, is_orphan, is_orphan_in, position}
-use Rattle.cmc_collector.specs.Examining.{IsExamined, current, current_of, examination, finds_owner, is_unavailable, examined_after, looked_from, next_owner}
-use Rattle.cmc_collector.specs.Moving.{IsStoreReply, IsCollected, IsDelete, IsEntry, IsExamineOf, IsOwnerLook, is_watch_event, is_of_kind, lack, lack_of_delivery, newest}
-use Rattle.cmc_collector.specs.Owning.{AreGood, CollectsWell, owners_of}
-use Rattle.cmc_collector.specs.Playing.{with_call_at, owner_key, played}
+use Rattle.cmc_collector.specs.CachePositions.{are_gone, cached_object, has_owners, is_gone, is_orphan, is_orphan_in, position}
+use Rattle.cmc_collector.specs.Examinations.{IsExamined, current, current_of, examination, finds_owner, is_unavailable, examined_after, looked_from, next_owner}
+use Rattle.cmc_collector.specs.Moves.{IsStoreReply, IsCollected, IsDelete, IsEntry, IsExamineOf, IsOwnerLook, is_watch_event, is_of_kind, lack, lack_of_delivery, newest}
+use Rattle.cmc_collector.specs.Owners.{AreGood, CollectsWell, owners_of}
+use Rattle.cmc_collector.specs.Replays.{with_call_at, owner_key, played}
 use Rattle.cmc_collector.proofs.Examined.{counts_on, examined_on, good_delete, looked_on}
 
 pub record Laws (s : Setting) (ms : List Moment) : Type 0 where

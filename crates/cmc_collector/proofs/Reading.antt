@@ -13,11 +13,11 @@ use Rattle.cmc_model.specs.Writes.{contents, last_of_kind, of_kind, oldest, writ
 use Rattle.cmc_model.proofs.Writes.{writes_count}
 use Rattle.cmc_collector.specs.declared.entry.Moment.{Moment}
 use Rattle.cmc_collector.specs.Caches.{AreCachesAt, Informers, informer_object, position_in}
-use Rattle.cmc_collector.specs.Caching.{is_orphan_in, has_any_owner}
-use Rattle.cmc_collector.specs.Examining.{current, current_of, is_to_examine}
+use Rattle.cmc_collector.specs.CachePositions.{is_orphan_in, has_any_owner}
+use Rattle.cmc_collector.specs.Examinations.{current, current_of, is_to_examine}
 use Rattle.cmc_collector.specs.Kept.{IsCollectorOf}
-use Rattle.cmc_collector.specs.Moving.{newest}
-use Rattle.cmc_collector.specs.Playing.{Collecting, given_uids, on, played, setting}
+use Rattle.cmc_collector.specs.Moves.{newest}
+use Rattle.cmc_collector.specs.Replays.{Collecting, given_uids, on, played, setting}
 use Rattle.cmc_collector.specs.Rows.{Rowed, has_examine_row, examination_under}
 use Rattle.cmc_collector.specs.Watched.{Served}
 use Rattle.cmc_collector.proofs.Keeping.{held_cached}

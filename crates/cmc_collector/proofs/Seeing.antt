@@ -16,11 +16,11 @@ use Rattle.cmc_collector.specs.declared.entry.CollectEntry.TheVariants as entrie
 use Rattle.cmc_collector.specs.declared.entry.Moment.{Moment}
 use Rattle.cmc_collector.specs.declared.examination.Examination.{Examination}
 use Rattle.cmc_collector.specs.Caches.{AreCachesAt, Informers, Moves, informer_object}
-use Rattle.cmc_collector.specs.Caching.{has_any_owner, position}
-use Rattle.cmc_collector.specs.Examining.{current, examined_after, next_owner}
+use Rattle.cmc_collector.specs.CachePositions.{has_any_owner, position}
+use Rattle.cmc_collector.specs.Examinations.{current, examined_after, next_owner}
 use Rattle.cmc_collector.specs.Kept.{IsCollectorOf}
-use Rattle.cmc_collector.specs.Moving.{IsStoreReply, lack_of_delivery, delivery_entry, with_entry}
-use Rattle.cmc_collector.specs.Playing.{Collecting, given_uids, on, owner_key, played, setting}
+use Rattle.cmc_collector.specs.Moves.{IsStoreReply, lack_of_delivery, delivery_entry, with_entry}
+use Rattle.cmc_collector.specs.Replays.{Collecting, given_uids, on, owner_key, played, setting}
 use Rattle.cmc_collector.specs.Rows.{Rowed, has_examine_row, examination_under}
 use Rattle.cmc_collector.specs.Watched.{Served, after_call}
 use Rattle.std.proofs.lemmas.Bool.{and_parts}
@@ -30,17 +30,17 @@ use Rattle.std.specs.List.{list_any}
 use Rattle.cmc_meta.specs.Keys.{key_cmp}
 use Rattle.cmc_model.specs.Writes.{write_at, writes}
 use Rattle.cmc_informer.specs.Indexes.{AreKeys}
-use Rattle.cmc_informer.specs.Watching.{is_changed}
+use Rattle.cmc_informer.specs.Watches.{is_changed}
 use Rattle.cmc_collector.specs.Caches.{position_in, position_after}
-use Rattle.cmc_collector.specs.Moving.{is_of_kind}
+use Rattle.cmc_collector.specs.Moves.{is_of_kind}
 use Rattle.cmc_collector.proofs.Keeping.{called_kept, deleted_kept, delivered_kept, looked_kept, still_covered}
 use Rattle.cmc_collector.proofs.Promise.{is_told_news, news_within}
 use Rattle.std.specs.Prelude.{is_some}
 use Rattle.cmc_model.specs.declared.write.Write.{Write}
-use Rattle.cmc_informer.specs.Watching.{Watched, start_of}
-use Rattle.cmc_collector.specs.Caching.{is_orphan_in}
-use Rattle.cmc_collector.specs.Examining.{current_of, is_to_examine}
-use Rattle.cmc_collector.specs.Settling.{FindsDue, FindsLeast}
+use Rattle.cmc_informer.specs.Watches.{Watched, start_of}
+use Rattle.cmc_collector.specs.CachePositions.{is_orphan_in}
+use Rattle.cmc_collector.specs.Examinations.{current_of, is_to_examine}
+use Rattle.cmc_collector.specs.Settles.{FindsDue, FindsLeast}
 use Rattle.cmc_collector.proofs.Firsts.{due_has_row, due_test}
 use Rattle.cmc_collector.proofs.Reading.{count_is, current_is, due_is, held_covered}
 

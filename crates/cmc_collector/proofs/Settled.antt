@@ -17,12 +17,12 @@ use Rattle.cmc_model.proofs.Writes.{writes_leave}
 use Rattle.cmc_informer.specs.Caches.{has_uid}
 use Rattle.cmc_collector.specs.declared.entry.Moment.{Moment}
 use Rattle.cmc_collector.specs.declared.examination.Examination.{Examination}
-use Rattle.cmc_collector.specs.Caching.{are_gone, cached_object, has_owners, is_orphan, is_orphan_in, position}
-use Rattle.cmc_collector.specs.Examining.{current_of, examination, is_to_examine}
-use Rattle.cmc_collector.specs.Moving.{newest}
-use Rattle.cmc_collector.specs.Owning.{AreDead, IsGoodCollect, owners_of}
-use Rattle.cmc_collector.specs.Playing.{owner_key, played}
-use Rattle.cmc_collector.specs.Settling.{IsSettled, first_kind_behind, is_behind}
+use Rattle.cmc_collector.specs.CachePositions.{are_gone, cached_object, has_owners, is_orphan, is_orphan_in, position}
+use Rattle.cmc_collector.specs.Examinations.{current_of, examination, is_to_examine}
+use Rattle.cmc_collector.specs.Moves.{newest}
+use Rattle.cmc_collector.specs.Owners.{AreDead, IsGoodCollect, owners_of}
+use Rattle.cmc_collector.specs.Replays.{owner_key, played}
+use Rattle.cmc_collector.specs.Settles.{IsSettled, first_kind_behind, is_behind}
 use Rattle.cmc_collector.proofs.OneKind.{object_at-of_kind, of_kind-oldest}
 use Rattle.cmc_collector.proofs.Unchanged.{kind_self}
 

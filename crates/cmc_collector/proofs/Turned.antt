@@ -5,10 +5,10 @@ use Rattle.cmc_meta.specs.declared.key.Key.{Key}
 use Rattle.cmc_collector.specs.declared.moves.CollectMove.{CollectMove}
 use Rattle.cmc_collector.specs.declared.moves.Collected.{Collected}
 use Rattle.cmc_collector.specs.declared.moves.Collected.TheVariants.{Done, NotNow, Spent}
-use Rattle.cmc_collector.specs.Moving.{LeavesCollected}
-use Rattle.cmc_collector.specs.Owning.{IsGoodCollect}
-use Rattle.cmc_collector.specs.Playing.{Collecting, on, played, setting}
-use Rattle.cmc_collector.specs.Settling.{EndsAs, IsSettled, IsTurned}
+use Rattle.cmc_collector.specs.Moves.{LeavesCollected}
+use Rattle.cmc_collector.specs.Owners.{IsGoodCollect}
+use Rattle.cmc_collector.specs.Replays.{Collecting, on, played, setting}
+use Rattle.cmc_collector.specs.Settles.{EndsAs, IsSettled, IsTurned}
 use Rattle.cmc_collector.proofs.Settled.{none_left}
 
 pub leaves_on : (n now : ℤ) (move of : CollectMove) (old mid new : Collecting) → n ≡ now → move ≡ of → new ≡ mid → LeavesCollected n of old Done mid → LeavesCollected now move old Done new

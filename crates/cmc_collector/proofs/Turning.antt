@@ -15,11 +15,11 @@ use Rattle.cmc_collector.specs.declared.moves.CollectLack.{CollectLack}
 use Rattle.cmc_collector.specs.declared.moves.CollectLack.TheVariants.{NoOrphan, Current, NotAWrite}
 use Rattle.cmc_collector.specs.declared.moves.Collected.{Collected}
 use Rattle.cmc_collector.specs.declared.moves.Collected.TheVariants.{Done, Spent}
-use Rattle.cmc_collector.specs.Caching.{position}
-use Rattle.cmc_collector.specs.Examining.{is_to_examine}
-use Rattle.cmc_collector.specs.Moving.{answer, answer_of, is_watch_event, is_of_kind, lack, lack_of_delivery, newest}
-use Rattle.cmc_collector.specs.Playing.{played}
-use Rattle.cmc_collector.specs.Settling.{EndsAs, IsSettled, IsSettlingMove, Settles, first_kind_behind, is_behind}
+use Rattle.cmc_collector.specs.CachePositions.{position}
+use Rattle.cmc_collector.specs.Examinations.{is_to_examine}
+use Rattle.cmc_collector.specs.Moves.{answer, answer_of, is_watch_event, is_of_kind, lack, lack_of_delivery, newest}
+use Rattle.cmc_collector.specs.Replays.{played}
+use Rattle.cmc_collector.specs.Settles.{EndsAs, IsSettled, IsSettlingMove, Settles, first_kind_behind, is_behind}
 
 -- ---- the newest write of a kind is one of it
 

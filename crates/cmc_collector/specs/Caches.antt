@@ -7,8 +7,8 @@ use Rattle.cmc_objects.specs.declared.object.Object.{Object}
 use Rattle.cmc_model.specs.declared.write.Write.{Write}
 use Rattle.cmc_model.specs.Objects.{object_at}
 use Rattle.cmc_model.specs.Writes.{kind_eq}
-use Rattle.cmc_informer.specs.Informing.{Informed, IsCacheAt}
-use Rattle.cmc_informer.specs.Watching.{Watched, start_of}
+use Rattle.cmc_informer.specs.Informers.{Informed, IsCacheAt}
+use Rattle.cmc_informer.specs.Watches.{Watched, start_of}
 
 pub record Informers : Type 0 where
   pub certificates : Informed

@@ -5,10 +5,10 @@ use Rattle.cmc_meta.specs.declared.key.Kind.{Kind}
 use Rattle.cmc_model.specs.Histories.{state}
 use Rattle.cmc_model.specs.Writes.{writes}
 use Rattle.cmc_collector.specs.Caches.{AreCachesAt, Informers, position_in}
-use Rattle.cmc_collector.specs.Caching.{cached_object, has_any_owner, position}
-use Rattle.cmc_collector.specs.Examining.{examination}
-use Rattle.cmc_collector.specs.Moving.{IsCollected}
-use Rattle.cmc_collector.specs.Playing.{Collecting, on, played, setting}
+use Rattle.cmc_collector.specs.CachePositions.{cached_object, has_any_owner, position}
+use Rattle.cmc_collector.specs.Examinations.{examination}
+use Rattle.cmc_collector.specs.Moves.{IsCollected}
+use Rattle.cmc_collector.specs.Replays.{Collecting, on, played, setting}
 use Rattle.cmc_collector.specs.Rows.{Rowed, has_examine_row, examination_under}
 use Rattle.cmc_collector.specs.Watched.{Served}
 

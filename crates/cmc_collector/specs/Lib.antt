@@ -1,9 +1,9 @@
-pub mod Playing
-pub mod Owning
-pub mod Caching
-pub mod Examining
-pub mod Moving
-pub mod Settling
+pub mod Replays
+pub mod Owners
+pub mod CachePositions
+pub mod Examinations
+pub mod Moves
+pub mod Settles
 pub mod Entries
 pub mod Watched
 pub mod Rows

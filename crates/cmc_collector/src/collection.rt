@@ -2,12 +2,12 @@
 ghost use Rattle.std.specs.FinMap as finite;
 ghost use Rattle.std.specs.Option.{option_copied};
 ghost use Rattle.std.specs.Prelude.{◌≡◌, ◌-◌, ◌<◌, ◌≤◌, IfOk, OnOk, OnErr, [], None, Some, true, length, nat_lt, if◌then◌else◌};
-ghost use Rattle.cmc_collector.specs.Caching as caching;
-ghost use Rattle.cmc_collector.specs.Examining as examining;
-ghost use Rattle.cmc_collector.specs.Moving as spec;
-ghost use Rattle.cmc_collector.specs.Owning.{CollectsWell};
-ghost use Rattle.cmc_collector.specs.Playing.{given_uids, on, store_state, stored_objects};
-ghost use Rattle.cmc_collector.specs.Settling.{FindsDue};
+ghost use Rattle.cmc_collector.specs.CachePositions as caching;
+ghost use Rattle.cmc_collector.specs.Examinations as examining;
+ghost use Rattle.cmc_collector.specs.Moves as spec;
+ghost use Rattle.cmc_collector.specs.Owners.{CollectsWell};
+ghost use Rattle.cmc_collector.specs.Replays.{given_uids, on, store_state, stored_objects};
+ghost use Rattle.cmc_collector.specs.Settles.{FindsDue};
 ghost use Rattle.cmc_collector.specs.declared.moves.Collected.TheVariants as answers;
 ghost use Rattle.cmc_collector.specs.declared.moves.CollectMove.TheVariants as moves;
 
@@ -49,7 +49,7 @@ impl Drop for Collection {
 
 impl Model for Collection {
     ghost use Rattle.cmc_collector.specs.Kept.{IsCollectorOf};
-    ghost use Rattle.cmc_collector.specs.Playing.{Collecting};
+    ghost use Rattle.cmc_collector.specs.Replays.{Collecting};
 
     ghost Value = { Collecting };
 

@@ -1,7 +1,7 @@
 //! The examination of one object.
 ghost use Rattle.std.specs.Option.{option_copied};
 ghost use Rattle.std.specs.Prelude.{◌≡◌, ◌+◌, ◌<◌, ◌^◌, IfOk};
-ghost use Rattle.cmc_collector.specs.Examining as spec;
+ghost use Rattle.cmc_collector.specs.Examinations as spec;
 ghost use Rattle.cmc_objects.specs.Objects.{version_of};
 
 use cmc_meta::OwnerRef;

@@ -5,11 +5,11 @@ ghost use Rattle.cmc_informer.specs.Caches.{has_uid};
 ghost use Rattle.cmc_meta.specs.declared.key.Key.{Key as KeyValue};
 ghost use Rattle.cmc_objects.specs.declared.call.Call.TheVariants as calls;
 ghost use Rattle.cmc_collector.specs.Caches.{informer_object};
-ghost use Rattle.cmc_collector.specs.Caching as spec;
-ghost use Rattle.cmc_collector.specs.Examining.{current_of};
-ghost use Rattle.cmc_collector.specs.Playing as playing;
+ghost use Rattle.cmc_collector.specs.CachePositions as spec;
+ghost use Rattle.cmc_collector.specs.Examinations.{current_of};
+ghost use Rattle.cmc_collector.specs.Replays as playing;
 ghost use Rattle.cmc_collector.specs.Rows.{has_examine_row, examination_under};
-ghost use Rattle.cmc_collector.specs.Settling.{FindsLeast};
+ghost use Rattle.cmc_collector.specs.Settles.{FindsLeast};
 
 use crate::caches::Caches;
 use crate::examination::Examination;

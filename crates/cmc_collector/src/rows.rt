@@ -6,7 +6,7 @@ ghost use Rattle.cmc_meta.specs.Keys.{key_cmp, key_eq};
 ghost use Rattle.std.specs.BTreeMap.{is_at};
 ghost use Rattle.std.specs.List.{list_any};
 ghost use Rattle.cmc_collector.specs.Caches.{informer_object};
-ghost use Rattle.cmc_collector.specs.Caching.{has_any_owner};
+ghost use Rattle.cmc_collector.specs.CachePositions.{has_any_owner};
 ghost use Rattle.cmc_collector.specs.Rows.{has_examine_row, examination_under};
 
 use crate::caches::Caches;

@@ -1,9 +1,9 @@
 //! Settling: the caches are told of all, and what is due is examined, until nothing is left to do.
 ghost use Rattle.std.specs.Prelude.{◌≡◌, ◌≤◌, IfOk, OnErr, MatchOption, length};
 ghost use Rattle.cmc_meta.specs.declared.key.Key.{Key as KeyValue};
-ghost use Rattle.cmc_collector.specs.Owning.{CollectsWell, IsGoodCollect};
-ghost use Rattle.cmc_collector.specs.Playing.{on, played, setting};
-ghost use Rattle.cmc_collector.specs.Settling as spec;
+ghost use Rattle.cmc_collector.specs.Owners.{CollectsWell, IsGoodCollect};
+ghost use Rattle.cmc_collector.specs.Replays.{on, played, setting};
+ghost use Rattle.cmc_collector.specs.Settles as spec;
 ghost use Rattle.cmc_collector.specs.declared.moves.Collected.TheVariants.{Done};
 
 use crate::collection::Collection;

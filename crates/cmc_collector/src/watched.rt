@@ -4,7 +4,7 @@ ghost use Rattle.std.specs.FinMap as finite;
 ghost use Rattle.std.specs.Prelude.{◌≡◌, ◌+◌, ◌-◌, ◌<◌, ◌^◌, IfOk, OnErr, [], ◌∷◌, length, reverse, slice_get, if◌then◌else◌};
 ghost use Rattle.cmc_model.specs.Replies.{IsReply, empty_store, is_accepted, settled, state_after};
 ghost use Rattle.cmc_model.specs.Writes as spec;
-ghost use Rattle.cmc_collector.specs.Moving.{is_of_kind};
+ghost use Rattle.cmc_collector.specs.Moves.{is_of_kind};
 ghost use Rattle.cmc_meta.specs.declared.key.Kind.{Kind as KindValue};
 ghost use Rattle.cmc_collector.specs.Watched.{after_call, position_of};
 

@@ -4,7 +4,7 @@ use Rattle.std.specs.Prelude.{if◌then◌else◌, IfOk}
 use Rattle.std.specs.declared.result.Result.{Result}
 use Rattle.cmc_cursor.specs.declared.error.BadField.{BadField}
 use Rattle.cmc_cursor.specs.declared.error.BadField.TheVariants.{Path, NoMemory}
-use Rattle.cmc_cursor.specs.Reading.{Path as Names, Read, Gives, ◌>>=◌, under}
+use Rattle.cmc_cursor.specs.Members.{Path as Names, Read, Gives, ◌>>=◌, under}
 
 -- what a reading gives, if it gives anything, is so
 pub record Always {A : Type 0} (P : A → Type 0) (r : Read A) : Type 0 where

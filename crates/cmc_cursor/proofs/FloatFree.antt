@@ -2,7 +2,7 @@
 use Rattle.std.proofs.Common.{◌≡◌, ℕ, ◌+◌, List, Bool, ◌||◌, true, false, Ok, Err, refl, decimal}
 use Rattle.serde_json.specs.Data.{Num, unsigned, negative, float, Data, null, boolean, number, string, array, object, Items, no_items, item, Members, no_members, member}
 use Rattle.serde_json.specs.Written.{has_float, items_have_float, members_have_float}
-use Rattle.cmc_cursor.specs.Reading.{Check, ◌>>=◌, under}
+use Rattle.cmc_cursor.specs.Members.{Check, ◌>>=◌, under}
 use Rattle.cmc_cursor.specs.Readers.{floats_at, floats_from, floats_in}
 
 -- two checks in a row passed

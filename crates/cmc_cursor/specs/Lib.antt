@@ -1,3 +1,3 @@
-pub mod Reading
+pub mod Members
 pub mod Readers
 pub mod Seen

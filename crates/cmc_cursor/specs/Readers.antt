@@ -14,7 +14,7 @@ use Rattle.cmc_meta.specs.Decimals.{number_in}
 use Rattle.cmc_meta.specs.Names.{is_subdomain}
 use Rattle.cmc_meta.specs.Wordings.{is_printable_name}
 use Rattle.cmc_meta.specs.PairLists.{with_text}
-use Rattle.cmc_cursor.specs.Reading.{Read, Check, ◌>>=◌, under, Field}
+use Rattle.cmc_cursor.specs.Members.{Read, Check, ◌>>=◌, under, Field}
 
 -- The value that was found, if any.
 abbrev pub found : {A : Type 0} → Option A → Read A

@@ -5,7 +5,7 @@ use Rattle.std.specs.declared.option.Option.{Option}
 use Rattle.serde_json.specs.Data.{Data}
 use Rattle.serde_json.specs.View.{view}
 use Rattle.serde_json.specs.declared.value.Value.{Value}
-use Rattle.cmc_cursor.specs.Reading.{Field}
+use Rattle.cmc_cursor.specs.Members.{Field}
 
 -- The member that two references stand for.
 abbrev pub shown : Bor (List ℕ) × Bor Value → Field

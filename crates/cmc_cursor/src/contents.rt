@@ -4,7 +4,7 @@ ghost use Rattle.base64.specs.Engines.{standard};
 ghost use Rattle.base64.specs.GeneralPurpose.{decode_of, encode_of};
 ghost use Rattle.serde_json.specs.Data.{string};
 ghost use Rattle.serde_json.specs.View.{view, members_view};
-ghost use Rattle.cmc_cursor.specs.Reading.{Gives, under};
+ghost use Rattle.cmc_cursor.specs.Members.{Gives, under};
 ghost use Rattle.cmc_cursor.specs.Readers.{decoded, bytes_at, text_at, parts_with, parts_at, pairs_with, pairs_at};
 
 use crate::cursor::at;

@@ -2,7 +2,7 @@
 ghost use Rattle.std.specs.Prelude.{◌≡◌, IfOk, map, decimal};
 ghost use Rattle.std.specs.declared.result.Result.{Result};
 ghost use Rattle.serde_json.specs.View.{view, members_view};
-ghost use Rattle.cmc_cursor.specs.Reading.{Gives, Read, fields_of, fields_at, optional_at, required_at, at_end, under};
+ghost use Rattle.cmc_cursor.specs.Members.{Gives, Read, fields_of, fields_at, optional_at, required_at, at_end, under};
 ghost use Rattle.cmc_cursor.specs.Seen.{shown, shown_option};
 
 use crate::error::BadField;
@@ -64,7 +64,7 @@ pub fn optional<'a, 'b>(
 ///
 /// Fails at the next member's name where that comes before `name` in byte order, and else at
 /// `name` where no such member stands.
-#[tactic(auto, unfolding(crate::specs::Reading::required_at))]
+#[tactic(auto, unfolding(crate::specs::Members::required_at))]
 pub fn required<'a, 'b>(
     alloc: Global,
     rest: Fields<'a, 'b>,

@@ -1,7 +1,7 @@
 // Members that are looked at out of turn, and members that are dropped.
 ghost use Rattle.std.specs.Prelude.{◌≡◌, map, option_map};
 ghost use Rattle.serde_json.specs.View.{view};
-ghost use Rattle.cmc_cursor.specs.Reading.{Gives};
+ghost use Rattle.cmc_cursor.specs.Members.{Gives};
 ghost use Rattle.cmc_cursor.specs.Readers.{passes, text_member, sought_at, dropped_at};
 ghost use Rattle.cmc_cursor.specs.Seen.{shown, shown_option};
 

@@ -1,6 +1,6 @@
 // Paths: what leads from a value down to what fails.
 ghost use Rattle.std.specs.Prelude.{◌≡◌, ◌++◌, ◌∷◌, [], IfOk, decimal};
-ghost use Rattle.cmc_cursor.specs.Reading.{dotted, text_of};
+ghost use Rattle.cmc_cursor.specs.Members.{dotted, text_of};
 
 use cmc_meta::{Text, Texts};
 use std::alloc::{AllocError, Global};

@@ -1,7 +1,7 @@
 // Single values.
 ghost use Rattle.std.specs.Prelude.{◌≡◌, decimal};
 ghost use Rattle.serde_json.specs.View.{view, items_view};
-ghost use Rattle.cmc_cursor.specs.Reading.{Gives, under};
+ghost use Rattle.cmc_cursor.specs.Members.{Gives, under};
 ghost use Rattle.cmc_cursor.specs.Readers.{text_at, word_at, flag_at, count_at, small_count_at, texts_at, texts_from};
 
 use crate::cursor::at_place;

@@ -1,7 +1,7 @@
 // Texts of a certain form.
 ghost use Rattle.std.specs.Prelude.{◌≡◌};
 ghost use Rattle.serde_json.specs.View.{view};
-ghost use Rattle.cmc_cursor.specs.Reading.{Gives};
+ghost use Rattle.cmc_cursor.specs.Members.{Gives};
 ghost use Rattle.cmc_cursor.specs.Readers.{short_text_at, printable_at, name_in, name_at, decimal_in, decimal_at};
 
 use crate::error::BadField;

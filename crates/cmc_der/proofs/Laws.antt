@@ -10,7 +10,7 @@ use Rattle.cmc_der.specs.Values.{IsDerValue, BeginsWith, IsPrefix, IsCutShort, I
 use Rattle.std.specs.Prelude.{IfOk}
 use Rattle.std.specs.Borrow.{Bor}
 use Rattle.cmc_der.specs.declared.reading.Tlv.{Tlv}
-use Rattle.cmc_der.specs.Reading.{◌>>=◌, tlv_shown, Gives, Found, number_at, long_at, length_at, body_at, read_at}
+use Rattle.cmc_der.specs.Elements.{◌>>=◌, tlv_shown, Gives, Found, number_at, long_at, length_at, body_at, read_at}
 use Rattle.cmc_der.proofs.Steps.{chosen, bind_ok, bind_err, Goes, Goes-bind, Goes-cond}
 use Rattle.cmc_der.proofs.Lengths.{length_spelled, length_again}
 

@@ -5,7 +5,7 @@ use Rattle.std.proofs.lemmas.Bool.{lt-ltb, le-ltb, ltb-true, ltb-false, ne_eqb, 
 use Rattle.cmc_der.specs.declared.reading.DerFault.{DerFault}
 use Rattle.cmc_der.specs.declared.reading.DerFault.TheVariants.{NotDer}
 use Rattle.cmc_der.specs.Values.{number_after, IsLength}
-use Rattle.cmc_der.specs.Reading.{number_at, long_at, length_at}
+use Rattle.cmc_der.specs.Elements.{number_at, long_at, length_at}
 use Rattle.cmc_der.proofs.Steps.{chosen}
 
 abbrev pub read_ok : ℕ × List ℕ → Result (ℕ × List ℕ) DerFault

@@ -2,7 +2,7 @@
 use Rattle.std.proofs.Common.{◌≡◌, ℕ, ◌+◌, ◌/◌, ◌%◌, reverse, ◌∙◌, ap, subst, ◌≤◌, Bool, true, false, cond, ltb, List, [], ◌∷◌, ◌++◌, length, arith}
 use Rattle.std.proofs.lemmas.List.{length-append}
 use Rattle.std.proofs.lemmas.List.{reverse-append}
-use Rattle.cmc_der.specs.Building.{length_octets, value, Begun, held_octets, Closes}
+use Rattle.cmc_der.specs.Builders.{length_octets, value, Begun, held_octets, Closes}
 use Rattle.cmc_der.specs.Integers.{trimmed, signed, integer_of}
 
 short : (a b c d : Bool) (v w x y z : List ℕ) → length v ≤ 5 → length w ≤ 5 → length x ≤ 5 → length y ≤ 5 → length z ≤ 5 → length (cond a v (cond b w (cond c x (cond d y z)))) ≤ 5

@@ -1,7 +1,7 @@
 -- Values that are written, within the size that is read, are values of the grammar.
 use Rattle.std.proofs.Common.{◌≢◌, ℕ, ◌%◌, ◌≤◌, List, [], ◌++◌, length, sym, arith, append-nil, length-append}
 use Rattle.cmc_der.specs.Values.{IsDerValue, BeginsWith}
-use Rattle.cmc_der.specs.Building.{value, length_octets}
+use Rattle.cmc_der.specs.Builders.{value, length_octets}
 use Rattle.cmc_der.proofs.Spelled.{value_spelled, value_begins}
 
 -- within the size that is read

@@ -2,7 +2,7 @@
 use Rattle.std.proofs.Common.{ℕ, ◌%◌, ◌^◌, ◌<◌, ◌≢◌, List, ◌++◌, length, refl, arith, inl, inr}
 use Rattle.std.proofs.lemmas.Bool.{cases_lt, lt-ltb, le-ltb}
 use Rattle.cmc_der.specs.Values.{IsLength, IsDerValue, BeginsWith}
-use Rattle.cmc_der.specs.Building.{length_octets, value}
+use Rattle.cmc_der.specs.Builders.{length_octets, value}
 
 length_spelled : (n : ℕ) → n < 2 ^ 32 → IsLength (length_octets n) n
 unfolding length_octets

@@ -2,7 +2,7 @@
 use Rattle.std.proofs.Common.{◌≡◌, Bool, true, false, cond, Result, Ok, Err, refl, inl, inr, ◌⊎◌}
 use Rattle.cmc_der.specs.declared.reading.DerFault.{DerFault}
 use Rattle.cmc_der.specs.declared.reading.DerFault.TheVariants.{Cut, NotDer}
-use Rattle.cmc_der.specs.Reading.{◌>>=◌}
+use Rattle.cmc_der.specs.Elements.{◌>>=◌}
 
 -- which way a test went
 pub chosen : {A : Type 0} (b : Bool) (x y z : A) → cond b x y ≡ z → ((b ≡ true) × (x ≡ z)) ⊎ ((b ≡ false) × (y ≡ z))

@@ -1,5 +1,5 @@
 pub mod Values
-pub mod Reading
+pub mod Elements
 pub mod Integers
-pub mod Building
+pub mod Builders
 pub mod Keys

@@ -2,7 +2,7 @@
 ghost use Rattle.std.specs.Prelude.{◌≡◌, ℕ, List, [], ◌++◌, ◌+◌, ◌*◌, ◌^◌, ◌<◌, ◌↔◌, IfOk, Ok, Err};
 ghost use Rattle.cmc_der.specs.declared.reading.DerFault.TheVariants.{Cut, NotDer};
 ghost use Rattle.cmc_der.specs.Values.{IsDerValue, BeginsWith, IsCutShort, IsNotDerAt};
-ghost use Rattle.cmc_der.specs.Reading.{tlv_shown, Gives, more_at, long_at, length_at, read_at};
+ghost use Rattle.cmc_der.specs.Elements.{tlv_shown, Gives, more_at, long_at, length_at, read_at};
 
 /// Why no value was read.
 #[derive(Clone, Copy, Debug, PartialEq, Eq)]
@@ -83,7 +83,7 @@ fn length_of(rest: &[u8]) -> Result<(usize, &[u8]), DerFault>
 }
 
 /// The value at the front, and the octets after it.
-#[tactic(auto, unfolding(crate::specs::Reading::read_at))]
+#[tactic(auto, unfolding(crate::specs::Elements::read_at))]
 fn read<'a>(input: &'a [u8]) -> Result<(Tlv<'a>, &'a [u8]), DerFault>
     ensures { Gives tlv_shown result (read_at input.now) }
 {

@@ -2,7 +2,7 @@
 ghost use Rattle.std.specs.Prelude.{◌≡◌, ◌≢◌, ℕ, List, [], ◌∷◌, ◌+◌, ◌^◌, ◌%◌, ◌<◌, ◌≤◌, ◌++◌, length, reverse, IfOk, OnOk, OnErr, vec_len};
 ghost use Rattle.cmc_der.specs.Values.{BeginsWith, number_after};
 ghost use Rattle.cmc_der.specs.Integers.{trimmed, signed, integer_of, IsIntegerOf};
-ghost use Rattle.cmc_der.specs.Building.{Building, Begun, length_octets, value, value_begun, value_closed, value_added, held_octets, Closes};
+ghost use Rattle.cmc_der.specs.Builders.{Building, Begun, length_octets, value, value_begun, value_closed, value_added, held_octets, Closes};
 
 use crate::fields::without_zeros;
 use std::alloc::{AllocError, Global};
@@ -22,7 +22,7 @@ fn append(out: &mut Vec<u8>, head: &[u8], front: &[u8], back: &[u8]) -> Result<(
 }
 
 /// One value more: its tag, its length octets and its contents octets, which are those of `front` and of `back`.
-#[tactic(auto, unfolding(crate::specs::Building::value, crate::specs::Building::length_octets))]
+#[tactic(auto, unfolding(crate::specs::Builders::value, crate::specs::Builders::length_octets))]
 fn put(out: &mut Vec<u8>, tag: u8, front: &[u8], back: &[u8]) -> Result<(), AllocError>
     requires { length front.now + length back.now < 2 ^ 32 }
     ensures ok { OnOk result (out.new.items ≡ out.old.items ++ value tag (front.now ++ back.now)) }

@@ -10,7 +10,7 @@ use Rattle.cmc_objects.specs.declared.entry.Who.{Who}
 use Rattle.cmc_objects.specs.declared.entry.Entry.{Entry}
 use Rattle.cmc_objects.specs.declared.entry.Entry.TheVariants as entries
 use Rattle.cmc_objects.specs.Objects.{key_of, name_of}
-use Rattle.cmc_objects.specs.Watching.{kind_of_work}
+use Rattle.cmc_objects.specs.Informers.{kind_of_work}
 use Rattle.cmc_print.specs.Printed.{object_tree}
 use Rattle.cmc_report.specs.Trees.{put_told, put_begin}
 use Rattle.cmc_codec.proofs.ObjectsAgain.{bytes_again}
@@ -26,7 +26,7 @@ use Rattle.cmc_lines.specs.declared.line.CallName.TheVariants as names
 use Rattle.cmc_lines.specs.declared.line.PrintedReply.{PrintedReply}
 use Rattle.cmc_lines.specs.declared.line.PrintedLine.{PrintedLine}
 use Rattle.cmc_lines.specs.declared.line.PrintedLine.TheVariants as lines
-use Rattle.cmc_cursor.specs.Reading.{Read}
+use Rattle.cmc_cursor.specs.Members.{Read}
 use Rattle.cmc_print.specs.Words.{key_text}
 use Rattle.cmc_entry_form.specs.LineForm.{line_at, script_in, deliver_line_in, list_in, stop_line_in, start_line_in, tick_line_in, begin_in, ask_in, made_in, signed_line_in, told_answer_in, judged_in, end_in, call_at, create_in, generate_in, update_in, delete_line_in, get_in, said_in, answered_in, answers_create, answers_other}
 use Rattle.cmc_entry_form.specs.Entries.{HasForm, HasReplyForm, HasCallForm}

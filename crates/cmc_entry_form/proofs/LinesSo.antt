@@ -18,9 +18,9 @@ use Rattle.cmc_objects.specs.declared.entry.Entry.TheVariants as entries
 use Rattle.cmc_objects.specs.declared.orders.Signing.{Signing}
 use Rattle.cmc_objects.specs.declared.orders.Signing.TheVariants as answers
 use Rattle.cmc_objects.specs.Objects.{key_of, name_of}
-use Rattle.cmc_objects.specs.Watching.{kind_of_work}
+use Rattle.cmc_objects.specs.Informers.{kind_of_work}
 use Rattle.cmc_print.specs.Words.{key_text}
-use Rattle.cmc_cursor.specs.Reading.{Read, ◌>>=◌, Field}
+use Rattle.cmc_cursor.specs.Members.{Read, ◌>>=◌, Field}
 use Rattle.cmc_cursor.specs.Readers.{found, text_at, name_in, name_at, count_at, small_count_at, flag_at, bytes_at}
 use Rattle.cmc_cursor.proofs.Always.{Always, so, failed, next, after, further}
 use Rattle.cmc_material.specs.Keys.{split_slash, kind_in, key_of_kind, key_of_text, key_at}

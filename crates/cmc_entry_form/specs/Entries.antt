@@ -16,7 +16,7 @@ use Rattle.cmc_objects.specs.declared.orders.Signing.TheVariants as answers
 use Rattle.cmc_objects.specs.declared.entry.Entry.{Entry}
 use Rattle.cmc_objects.specs.declared.entry.Entry.TheVariants as entries
 use Rattle.cmc_objects.specs.Objects.{key_of}
-use Rattle.cmc_objects.specs.Watching.{kind_of_work}
+use Rattle.cmc_objects.specs.Informers.{kind_of_work}
 use Rattle.cmc_status_form.specs.Laws.{HasWholeForm}
 use Rattle.cmc_summary_form.specs.SummaryForm.{HasNames, IsKeyOfKind}
 

@@ -16,9 +16,9 @@ use Rattle.cmc_objects.specs.declared.entry.Positions.{Positions}
 use Rattle.cmc_objects.specs.declared.orders.Signing.{Signing}
 use Rattle.cmc_objects.specs.declared.orders.Signing.TheVariants as answers
 use Rattle.cmc_objects.specs.Objects.{key_of, name_of}
-use Rattle.cmc_objects.specs.Watching.{kind_of_work}
+use Rattle.cmc_objects.specs.Informers.{kind_of_work}
 use Rattle.cmc_print.specs.Words.{key_text}
-use Rattle.cmc_cursor.specs.Reading.{Read, ◌>>=◌, Field, fields_at}
+use Rattle.cmc_cursor.specs.Members.{Read, ◌>>=◌, Field, fields_at}
 use Rattle.cmc_cursor.specs.Readers.{found, text_at, name_at, count_at, small_count_at, flag_at, bytes_at}
 use Rattle.cmc_material.specs.Keys.{key_of_kind, key_at}
 use Rattle.cmc_scenario.specs.Roles.{role_at, kind_at}

@@ -1,7 +1,7 @@
 // The lines of calls.
 ghost use Rattle.std.specs.Prelude.{◌≡◌, ◌++◌, codes, IfOk};
 ghost use Rattle.serde_json.specs.View.{view};
-ghost use Rattle.cmc_cursor.specs.Reading.{Gives};
+ghost use Rattle.cmc_cursor.specs.Members.{Gives};
 ghost use Rattle.cmc_material.specs.Keys.{key_at};
 ghost use Rattle.cmc_status_form.specs.WholeForm.{whole_object_at};
 ghost use Rattle.cmc_objects.specs.Objects as objects;

@@ -1,7 +1,7 @@
 // The lines of entries.
 ghost use Rattle.std.specs.Prelude.{◌≡◌};
 ghost use Rattle.serde_json.specs.View.{view};
-ghost use Rattle.cmc_cursor.specs.Reading.{Gives};
+ghost use Rattle.cmc_cursor.specs.Members.{Gives};
 ghost use Rattle.cmc_entry_form.specs.LineForm.{deliver_line_in, line_at, line_in, list_in, script_in, start_line_in, stop_line_in, tick_line_in};
 
 use crate::calls::call;

@@ -2,7 +2,7 @@
 ghost use Rattle.std.specs.Prelude.{◌≡◌};
 ghost use Rattle.serde_json.specs.View.{view};
 ghost use Rattle.serde_json.specs.Find.{get};
-ghost use Rattle.cmc_cursor.specs.Reading.{Gives};
+ghost use Rattle.cmc_cursor.specs.Members.{Gives};
 ghost use Rattle.cmc_cursor.specs.Readers.{found, text_at, count_at, bytes_at};
 ghost use Rattle.cmc_material.specs.Keys.{key_of_kind, split_slash};
 ghost use Rattle.cmc_scenario.specs.Roles.{role_at, role_in, kind_at};

@@ -1,7 +1,7 @@
 // Handed-out work and its answers.
 ghost use Rattle.std.specs.Prelude.{◌≡◌};
 ghost use Rattle.serde_json.specs.View.{view};
-ghost use Rattle.cmc_cursor.specs.Reading.{Gives};
+ghost use Rattle.cmc_cursor.specs.Members.{Gives};
 ghost use Rattle.cmc_entry_form.specs.LineForm as spec;
 ghost use Rattle.cmc_entry_form.specs.LineForm.{answer_at, answer_read_in, csr_order_in, failed_in, issued_in, judge_order_in, key_order_in, order_at, order_in, sign_order_in};
 

@@ -1,7 +1,7 @@
 // The lines of passes.
 ghost use Rattle.std.specs.Prelude.{◌≡◌, codes};
 ghost use Rattle.serde_json.specs.View.{view};
-ghost use Rattle.cmc_cursor.specs.Reading.{Gives};
+ghost use Rattle.cmc_cursor.specs.Members.{Gives};
 ghost use Rattle.cmc_cursor.specs.Readers.{flag_at};
 ghost use Rattle.cmc_entry_form.specs.LineForm.{answer_at, ask_in, begin_in, cause_at, cause_named as named_cause, end_in, judged_in, made_in, member_as, order_at, pass_in, positions_at, signed_line_in, told_answer_in};
 

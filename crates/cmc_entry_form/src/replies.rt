@@ -1,7 +1,7 @@
 // Replies, and by whom calls are.
 ghost use Rattle.std.specs.Prelude.{◌≡◌, codes};
 ghost use Rattle.serde_json.specs.View.{view};
-ghost use Rattle.cmc_cursor.specs.Reading.{Gives};
+ghost use Rattle.cmc_cursor.specs.Members.{Gives};
 ghost use Rattle.cmc_cursor.specs.Readers.{name_at};
 ghost use Rattle.cmc_entry_form.specs.LineForm as spec;
 ghost use Rattle.cmc_entry_form.specs.LineForm.{answered_in, conflict_at, created_in, member_as, refused_in, reply_at, said_in, who_at};

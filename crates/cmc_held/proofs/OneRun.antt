@@ -26,8 +26,8 @@ use Rattle.cmc_rules.specs.declared.progress.Past.{Past}
 use Rattle.cmc_rules.specs.Legality.{IsLegal}
 use Rattle.cmc_rules.specs.Memory.{ending_of, no_past, past, past_called, with_begin, with_ending, with_own}
 use Rattle.cmc_rules.specs.Passes.{is_pass_of, open_pass}
-use Rattle.cmc_rules.specs.Sighting.{IsAmong}
-use Rattle.cmc_rules.specs.Viewing.{views}
+use Rattle.cmc_rules.specs.SeenObjects.{IsAmong}
+use Rattle.cmc_rules.specs.Views.{views}
 use Rattle.cmc_rules.proofs.Sighted.{AreKnown, version_has_one_object, views_known}
 use Rattle.cmc_rules.proofs.Sights.{seen_certificate, seen_secret, seen_request, seen_next, seen_owned}
 use Rattle.cmc_held.specs.OneRun.{AreOfOneRun, IsOfOneRun, VersionsTell, VersionsTellAll}

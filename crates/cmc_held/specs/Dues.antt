@@ -3,7 +3,7 @@ use Rattle.std.specs.Prelude.{ℕ, if◌then◌else◌}
 use Rattle.cmc_meta.specs.declared.key.Kind.TheVariants.{Certificate, CertificateRequest, Secret}
 use Rattle.cmc_objects.specs.declared.role.Role.{Role}
 use Rattle.cmc_objects.specs.declared.entry.Positions.{Positions}
-use Rattle.cmc_objects.specs.Watching.{has_informer}
+use Rattle.cmc_objects.specs.Informers.{has_informer}
 
 -- the positions of the kinds that the role is told of, and 0 of each other kind
 abbrev pub shown_positions : Role → Positions → Positions

@@ -4,7 +4,7 @@ use Rattle.cmc_objects.specs.declared.object.Object.{Object}
 use Rattle.cmc_objects.specs.Objects.{version_of}
 use Rattle.cmc_pass.specs.declared.pass.Views.{Views}
 use Rattle.cmc_rules.specs.declared.progress.LastPass.{LastPass}
-use Rattle.cmc_rules.specs.Sighting.{IsAmong, IsSeen}
+use Rattle.cmc_rules.specs.SeenObjects.{IsAmong, IsSeen}
 
 -- no version was given twice: objects of one version are one object
 abbrev pub AreOfOneRun : Views → Views → Type 0

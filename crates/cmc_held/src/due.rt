@@ -2,7 +2,7 @@
 //! before again.
 ghost use Rattle.std.specs.Prelude.{◌≡◌, ◌↔◌, IsTrue, if◌then◌else◌};
 ghost use Rattle.cmc_rules.specs.Sameness.{EndsAlike, IsSame, IsStillBehind, own_above};
-ghost use Rattle.cmc_objects.specs.Watching.{has_informer};
+ghost use Rattle.cmc_objects.specs.Informers.{has_informer};
 ghost use Rattle.cmc_held.specs.Dues.{shown_positions};
 ghost use Rattle.cmc_held.specs.OneRun.{IsOfOneRun};
 

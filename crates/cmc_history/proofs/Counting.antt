@@ -8,7 +8,7 @@ use Rattle.cmc_objects.specs.declared.entry.Entry.{Entry}
 use Rattle.cmc_objects.specs.declared.entry.Entry.TheVariants.{Call as Called}
 use Rattle.cmc_model.specs.Replies.{is_accepted}
 use Rattle.cmc_model.specs.Histories.{Setting, accepted}
-use Rattle.cmc_history.specs.Replaying.{is_written}
+use Rattle.cmc_history.specs.Replays.{is_written}
 
 -- a count does not depend on the order
 reversed_step : (p : Entry → Bool) (e : Entry) (es : List Entry) → count_by p (reverse (e ∷ es)) ≡ cond (p e) 1 0 + count_by p (reverse es)

@@ -21,7 +21,7 @@ use Rattle.cmc_meta.proofs.KeyOrder.{key_cmp-IsAntisymmetric}
 use Rattle.cmc_model.proofs.Writes.{writes_count, writes_leave, oldest-older, oldest-beyond}
 use Rattle.cmc_model.proofs.Versions.{object_at-put}
 use Rattle.cmc_history.specs.declared.standing.Standing.{Standing}
-use Rattle.cmc_history.specs.Replaying.{written_over, count_after, object_after, standing_after, replayed}
+use Rattle.cmc_history.specs.Replays.{written_over, count_after, object_after, standing_after, replayed}
 use Rattle.cmc_model.specs.Replies.{stored_over}
 
 -- ---- one write more

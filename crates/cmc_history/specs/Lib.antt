@@ -1,3 +1,3 @@
 pub mod Told
 pub mod Places
-pub mod Replaying
+pub mod Replays

@@ -5,7 +5,7 @@ ghost use Rattle.cmc_objects.specs.Objects.{key_of};
 ghost use Rattle.cmc_model.specs.Histories.{moment_with};
 ghost use Rattle.cmc_model.specs.Replies.{is_accepted, key_of_call, from_old};
 ghost use Rattle.cmc_model.specs.Stored.{revised, restated};
-ghost use Rattle.cmc_history.specs.Replaying.{is_written, written_call, written_over, count_after, object_after, standing_after, replayed};
+ghost use Rattle.cmc_history.specs.Replays.{is_written, written_call, written_over, count_after, object_after, standing_after, replayed};
 ghost use Rattle.cmc_model.specs.Replies.{stored_over};
 
 use cmc_meta::Key;

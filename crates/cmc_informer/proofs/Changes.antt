@@ -9,7 +9,7 @@ use Rattle.cmc_meta.specs.Keys.{key_eq}
 use Rattle.cmc_model.specs.declared.write.Write.{Write}
 use Rattle.cmc_model.specs.Writes.{kind_eq, last_under, oldest}
 use Rattle.cmc_model.proofs.Writes.{oldest-replayed}
-use Rattle.cmc_informer.specs.Watching.{is_changed}
+use Rattle.cmc_informer.specs.Watches.{is_changed}
 use Rattle.cmc_informer.proofs.OneMark.{key_tie, same_key}
 
 counted : (b : Bool) (i : ℕ) (w : Write) (ws : List Write) → nat_le (length (w ∷ ws)) i ≡ b → i ≤ length (w ∷ ws) → (i ≤ length ws → length (oldest i ws) ≡ i) → length (if b then w ∷ ws else oldest i ws) ≡ i

@@ -17,7 +17,7 @@ use Rattle.cmc_model.proofs.Writes.{contents_of-next}
 use Rattle.cmc_informer.specs.Caches.{after_writes}
 use Rattle.std.specs.Borrow.{Bor}
 use Rattle.cmc_informer.specs.declared.latest.Change.{Change}
-use Rattle.cmc_informer.specs.Superseding.{has_seen, with_first, with_older, writes_of}
+use Rattle.cmc_informer.specs.Superseded.{has_seen, with_first, with_older, writes_of}
 use Rattle.cmc_informer.proofs.OneMark.{equal_key, key_eq_self, same_key}
 
 covered : (b : Bool) (p o r : Option Object) → cond b p (cond b o r) ≡ cond b p r

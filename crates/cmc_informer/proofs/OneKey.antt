@@ -10,7 +10,7 @@ use Rattle.cmc_meta.specs.Keys.{key_cmp, key_eq}
 use Rattle.cmc_meta.proofs.KeyOrder.{key_cmp-total}
 use Rattle.cmc_informer.specs.declared.marks.Mark.{Mark}
 use Rattle.cmc_informer.specs.Indexes.{AreKeys, has_place, is_marked_key, mark_in, on_keys}
-use Rattle.cmc_informer.specs.Marking.{marked_by}
+use Rattle.cmc_informer.specs.Marks.{marked_by}
 use Rattle.cmc_informer.proofs.OneMark.{key_eq_self, key_tie, keys_are, mark_missing, same_key}
 
 turned_tie : (key k : Key) → is_at (key_cmp k) key ≡ key_eq key k

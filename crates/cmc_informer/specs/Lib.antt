@@ -1,7 +1,7 @@
 pub mod Indexes
-pub mod Marking
+pub mod Marks
 pub mod Caches
 pub mod Indexed
-pub mod Watching
-pub mod Informing
-pub mod Superseding
+pub mod Watches
+pub mod Informers
+pub mod Superseded

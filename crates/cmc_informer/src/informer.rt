@@ -4,8 +4,8 @@ ghost use Rattle.std.specs.Prelude.{◌≡◌, ◌≤◌, ◌<◌, IfOk, IfErr, 
 ghost use Rattle.cmc_model.specs.Objects.{no_objects, object_at};
 ghost use Rattle.cmc_informer.specs.Caches.{has_uid, is_owned_by, is_targeting};
 ghost use Rattle.cmc_informer.specs.Indexes.{AreKeys, Finds};
-ghost use Rattle.cmc_informer.specs.Watching.{start_of};
-ghost use Rattle.cmc_informer.specs.Informing.{IsCacheAt};
+ghost use Rattle.cmc_informer.specs.Watches.{start_of};
+ghost use Rattle.cmc_informer.specs.Informers.{IsCacheAt};
 ghost use Rattle.cmc_informer.specs.declared.informer.Undelivered.TheVariants.{Gone, NoMemory};
 
 use crate::cache::Cache;
@@ -60,7 +60,7 @@ impl Drop for Informer {
 impl Model for Informer {
     ghost use Rattle.std.specs.Coded.{codes};
     ghost use Rattle.cmc_informer.specs.contracts.cache.Cache as cache_row;
-    ghost use Rattle.cmc_informer.specs.Informing.{Informed};
+    ghost use Rattle.cmc_informer.specs.Informers.{Informed};
 
     ghost Value = { Informed };
 

@@ -2,7 +2,7 @@
 ghost use Rattle.std.specs.Prelude.{◌≡◌, ◌||◌, IfOk, OnOk, not};
 ghost use Rattle.cmc_meta.specs.declared.key.Key.{Key as KeyValue};
 ghost use Rattle.cmc_meta.specs.Keys.{key_eq};
-ghost use Rattle.cmc_informer.specs.Superseding.{has_seen};
+ghost use Rattle.cmc_informer.specs.Superseded.{has_seen};
 
 use cmc_meta::Key;
 use cmc_objects::Object;
@@ -29,7 +29,7 @@ impl<'a> Model for SeenKeys<'a> {
     ghost use Rattle.std.specs.Borrow.{Bor};
     ghost use Rattle.std.specs.Prelude.{List, [], None, ◌≡◌};
     ghost use Rattle.cmc_meta.specs.declared.key.Key.{Key};
-    ghost use Rattle.cmc_informer.specs.Superseding.{with_first};
+    ghost use Rattle.cmc_informer.specs.Superseded.{with_first};
 
     ghost Value = { List (Bor Key) };
 

@@ -4,7 +4,7 @@ ghost use Rattle.std.specs.Prelude.{◌≡◌, IfOk, OnErr, OnOk, if◌then◌el
 ghost use Rattle.cmc_meta.specs.declared.key.Key.{Key as KeyValue};
 ghost use Rattle.cmc_meta.specs.Keys.{key_eq};
 ghost use Rattle.cmc_informer.specs.Indexes.{AreKeys, Finds, has_place, mark_in};
-ghost use Rattle.cmc_informer.specs.Marking.{marked, marked_by};
+ghost use Rattle.cmc_informer.specs.Marks.{marked, marked_by};
 
 use crate::keys::Keys;
 use crate::mark_map::MarkMap;
@@ -50,7 +50,7 @@ impl Drop for Marks {
 
 impl Model for Marks {
     ghost use Rattle.cmc_informer.specs.Indexes.{Marked};
-    ghost use Rattle.cmc_informer.specs.Marking.{marked};
+    ghost use Rattle.cmc_informer.specs.Marks.{marked};
 
     ghost Value = { Marked };
 

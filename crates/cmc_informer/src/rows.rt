@@ -7,7 +7,7 @@ ghost use Rattle.cmc_model.specs.Writes.{is_known};
 ghost use Rattle.cmc_meta.specs.declared.key.Key.{Key as KeyValue};
 ghost use Rattle.cmc_informer.specs.Caches.{objects_in, after_writes};
 ghost use Rattle.cmc_informer.specs.Indexed.{HasRoom, HasRoomFor, IsIndexed, KeepsRoom};
-ghost use Rattle.cmc_informer.specs.Superseding.{has_seen, with_older, writes_of};
+ghost use Rattle.cmc_informer.specs.Superseded.{has_seen, with_older, writes_of};
 
 use crate::index::Index;
 use crate::latest::{Change, SeenKeys};

@@ -1,7 +1,7 @@
 //! The accepted writes, as a watch gives them.
 ghost use Rattle.std.specs.Prelude.{◌≡◌, ◌≤◌, ◌<◌, ◌+◌, ◌&&◌, if◌then◌else◌, true, [], ◌∷◌, IfOk, OnOk, length, reverse};
 ghost use Rattle.cmc_model.specs.Writes as spec;
-ghost use Rattle.cmc_informer.specs.Watching.{is_changed, start_of};
+ghost use Rattle.cmc_informer.specs.Watches.{is_changed, start_of};
 ghost use Rattle.cmc_meta.specs.declared.key.Key.{Key as KeyValue};
 ghost use Rattle.cmc_meta.specs.Keys.{key_eq};
 ghost use Rattle.cmc_informer.specs.Indexes.{AreKeys, mark_in};
@@ -28,7 +28,7 @@ pub struct Watch {
 
 impl Model for Watch {
     ghost use Rattle.std.specs.Prelude.{◌-◌, reverse, vec_len, vec_capacity};
-    ghost use Rattle.cmc_informer.specs.Watching.{Watched};
+    ghost use Rattle.cmc_informer.specs.Watches.{Watched};
 
     ghost Value = { Watched };
 

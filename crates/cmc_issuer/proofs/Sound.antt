@@ -3,7 +3,7 @@ use Rattle.std.proofs.Common.{◌≡◌, ℤ, refl}
 use Rattle.cmc_objects.specs.declared.role.Role.TheVariants.{Issuer}
 use Rattle.cmc_pass.specs.declared.pass.Views.{Views}
 use Rattle.cmc_pass.specs.declared.pass.Desk.{Desk}
-use Rattle.cmc_rules.specs.Granting.{issuer, answered_after}
+use Rattle.cmc_rules.specs.Issuer.{issuer, answered_after}
 use Rattle.cmc_rules.specs.Sound.{views_shown, IsSoundTable}
 use Rattle.cmc_issuer.proofs.Table.{within, stays, none}
 

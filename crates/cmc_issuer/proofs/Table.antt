@@ -19,9 +19,9 @@ use Rattle.cmc_pass.specs.declared.pass.Act.TheVariants.{Nothing, Call as Calls}
 use Rattle.cmc_pass.specs.declared.value.Value.{Value}
 use Rattle.cmc_pass.specs.declared.value.Value.TheVariants.{Made, Signed, Answered, Judged}
 use Rattle.cmc_pass.specs.Values.{IsValue}
-use Rattle.cmc_rules.specs.Answering.{answered}
-use Rattle.cmc_rules.specs.Granting.{has_reason, is_open, is_waiting_on, is_request_waiting, status_call, denied_status, deny, sign_order, ask_issuer, grant, grant_of, issuer, answered_for, answered_after}
-use Rattle.cmc_rules.specs.Sighting.{IsWellSeen}
+use Rattle.cmc_rules.specs.IssuerAnswers.{answered}
+use Rattle.cmc_rules.specs.Issuer.{has_reason, is_open, is_waiting_on, is_request_waiting, status_call, denied_status, deny, sign_order, ask_issuer, grant, grant_of, issuer, answered_for, answered_after}
+use Rattle.cmc_rules.specs.SeenObjects.{IsWellSeen}
 use Rattle.cmc_rules.specs.Sound.{IsFollowed, IsWithin, IsMinuteAfter, IsRetry}
 use Rattle.cmc_rules.proofs.Sights.{seen_request}
 use Rattle.cmc_rules.proofs.Lines.{by_test}

@@ -12,11 +12,11 @@ use Rattle.cmc_objects.specs.Objects.{numbered}
 use Rattle.cmc_model.specs.Stored.{with_status}
 use Rattle.cmc_pass.specs.declared.pass.Views.{Views}
 use Rattle.cmc_pass.specs.declared.value.Value.{Value}
-use Rattle.cmc_rules.specs.Answering.{issued_condition, pending_condition, failed_condition, answered}
+use Rattle.cmc_rules.specs.IssuerAnswers.{issued_condition, pending_condition, failed_condition, answered}
 use Rattle.cmc_rules.specs.Dates.{StaysDated}
-use Rattle.cmc_rules.specs.Granting.{denied_condition, denied_status, status_call}
+use Rattle.cmc_rules.specs.Issuer.{denied_condition, denied_status, status_call}
 use Rattle.cmc_rules.specs.Rights.{ChangesAnswer}
-use Rattle.cmc_rules.specs.Sighting.{OnSeen}
+use Rattle.cmc_rules.specs.SeenObjects.{OnSeen}
 use Rattle.cmc_rules.specs.Sound.{IsOrdinary, IsWriteAfterValue}
 use Rattle.cmc_rules.proofs.Sights.{seen_request}
 use Rattle.cmc_rules.proofs.Conditions.{others-renewed, others-transitioned}

@@ -2,7 +2,7 @@
 ghost use Rattle.std.specs.Option.{option_copied};
 ghost use Rattle.std.specs.Prelude.{◌≡◌, ◌<◌, ◌^◌, ◌+ℤ◌, IfOk, int_lt, pos, true, false};
 ghost use Rattle.cmc_objects.specs.Requests.{is_denied as is_refused, is_request_form, is_row_form, is_run_time};
-ghost use Rattle.cmc_rules.specs.Granting as table;
+ghost use Rattle.cmc_rules.specs.Issuer as table;
 ghost use Rattle.cmc_rules.specs.Orders.{reply_row};
 
 use crate::calls::deny_call;
@@ -125,7 +125,7 @@ fn grant_one(
 ///
 /// The moment is one of a run, fewer than 2 ^ 63 questions were asked, and the request and the answer that is set out
 /// for it are of the forms that reading gives.
-#[tactic(auto, unfolding(cmc_rules::specs::Granting::issuer))]
+#[tactic(auto, unfolding(cmc_rules::specs::Issuer::issuer))]
 pub fn act(alloc: Global, views: &Views, now: i64, desk: &Desk) -> Result<Act, AllocError>
     requires in_run { is_run_time now ≡ true }
     requires few { desk.now.asked < 2 ^ 63 }

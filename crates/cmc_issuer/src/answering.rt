@@ -1,7 +1,7 @@
 //! What the answer of an issuer makes of a request's status.
 ghost use Rattle.std.specs.Prelude.{◌≡◌, IfOk};
 ghost use Rattle.cmc_objects.specs.declared.orders.Signing.TheVariants.{Issued, Pending, Failed};
-ghost use Rattle.cmc_rules.specs.Answering as spec;
+ghost use Rattle.cmc_rules.specs.IssuerAnswers as spec;
 
 use cmc_meta::{Bytes, Condition, ConditionKind, Text, Tri};
 use cmc_objects::{CertificateRequest, RequestStatus, Signing};
@@ -25,7 +25,7 @@ fn ready(
     })
 }
 
-#[tactic(auto, unfolding(cmc_rules::specs::Answering::issued_condition))]
+#[tactic(auto, unfolding(cmc_rules::specs::IssuerAnswers::issued_condition))]
 fn issued_condition(alloc: Global, moment: i64) -> Result<Condition, AllocError>
     ensures { IfOk result (λ c. c ≡ spec.issued_condition moment) }
 {
@@ -38,7 +38,7 @@ fn issued_condition(alloc: Global, moment: i64) -> Result<Condition, AllocError>
     )
 }
 
-#[tactic(auto, unfolding(cmc_rules::specs::Answering::pending_condition))]
+#[tactic(auto, unfolding(cmc_rules::specs::IssuerAnswers::pending_condition))]
 fn pending_condition(alloc: Global, moment: i64) -> Result<Condition, AllocError>
     ensures { IfOk result (λ c. c ≡ spec.pending_condition moment) }
 {
@@ -51,14 +51,14 @@ fn pending_condition(alloc: Global, moment: i64) -> Result<Condition, AllocError
     )
 }
 
-#[tactic(auto, unfolding(cmc_rules::specs::Answering::failed_condition))]
+#[tactic(auto, unfolding(cmc_rules::specs::IssuerAnswers::failed_condition))]
 fn failed_condition(alloc: Global, message: &Text, moment: i64) -> Result<Condition, AllocError>
     ensures { IfOk result (λ c. c ≡ spec.failed_condition message.now moment) }
 {
     ready(alloc, Tri::False, "Failed", message.as_str(), moment)
 }
 
-#[tactic(auto, unfolding(cmc_rules::specs::Answering::answered))]
+#[tactic(auto, unfolding(cmc_rules::specs::IssuerAnswers::answered))]
 fn issued(
     alloc: Global,
     status: &RequestStatus,
@@ -78,7 +78,7 @@ fn issued(
     })
 }
 
-#[tactic(auto, unfolding(cmc_rules::specs::Answering::answered))]
+#[tactic(auto, unfolding(cmc_rules::specs::IssuerAnswers::answered))]
 fn pending(alloc: Global, status: &RequestStatus, moment: i64) -> Result<RequestStatus, AllocError>
     ensures { IfOk result (λ s. s ≡ spec.answered status.now Pending moment) }
 {
@@ -87,7 +87,7 @@ fn pending(alloc: Global, status: &RequestStatus, moment: i64) -> Result<Request
     Ok(changed)
 }
 
-#[tactic(auto, unfolding(cmc_rules::specs::Answering::answered))]
+#[tactic(auto, unfolding(cmc_rules::specs::IssuerAnswers::answered))]
 fn failed(
     alloc: Global,
     status: &RequestStatus,

@@ -1,13 +1,13 @@
 //! The write of a status.
 ghost use Rattle.std.specs.Prelude.{◌≡◌, IfOk};
-ghost use Rattle.cmc_rules.specs.Granting as table;
+ghost use Rattle.cmc_rules.specs.Issuer as table;
 
 use cmc_meta::{Condition, ConditionKind, Text, Tri};
 use cmc_objects::{Call, CertificateRequest, Object, RequestStatus, Shared};
 use std::alloc::{AllocError, Global};
 
 /// The status update, at the version of the request, with this status.
-#[tactic(auto, unfolding(cmc_rules::specs::Granting::status_call))]
+#[tactic(auto, unfolding(cmc_rules::specs::Issuer::status_call))]
 pub fn status_call(
     alloc: Global,
     status: RequestStatus,
@@ -27,7 +27,7 @@ pub fn status_call(
     })
 }
 
-#[tactic(auto, unfolding(cmc_rules::specs::Granting::denied_condition))]
+#[tactic(auto, unfolding(cmc_rules::specs::Issuer::denied_condition))]
 fn denied_condition(alloc: Global, moment: i64) -> Result<Condition, AllocError>
     ensures { IfOk result (λ c. c ≡ table.denied_condition moment) }
 {
@@ -43,7 +43,7 @@ fn denied_condition(alloc: Global, moment: i64) -> Result<Condition, AllocError>
     })
 }
 
-#[tactic(auto, unfolding(cmc_rules::specs::Granting::denied_status))]
+#[tactic(auto, unfolding(cmc_rules::specs::Issuer::denied_status))]
 fn denied_status(
     alloc: Global,
     status: &RequestStatus,

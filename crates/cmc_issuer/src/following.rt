@@ -1,9 +1,9 @@
 //! The call that follows a value.
 ghost use Rattle.std.specs.Prelude.{◌≡◌, IfOk, IsSome, Some};
 ghost use Rattle.cmc_next.specs.Questions.{IsQuestionOf};
-ghost use Rattle.cmc_pass.specs.Giving.{order_of, value_of};
+ghost use Rattle.cmc_pass.specs.GivenValues.{order_of, value_of};
 ghost use Rattle.cmc_pass.specs.Values.{IsValue};
-ghost use Rattle.cmc_rules.specs.Granting as table;
+ghost use Rattle.cmc_rules.specs.Issuer as table;
 
 use crate::answering::status_of;
 use crate::calls::status_call;
@@ -58,7 +58,7 @@ fn answered_to(
     }
 }
 
-#[tactic(auto, unfolding(cmc_rules::specs::Granting::answered_after))]
+#[tactic(auto, unfolding(cmc_rules::specs::Issuer::answered_after))]
 fn followed(
     alloc: Global,
     views: &Views,

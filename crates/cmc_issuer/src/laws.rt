@@ -1,6 +1,6 @@
 //! What is proved of the controller's table.
 ghost use Rattle.cmc_objects.specs.declared.role.Role.TheVariants.{Issuer};
-ghost use Rattle.cmc_rules.specs.Granting.{issuer, answered_after};
+ghost use Rattle.cmc_rules.specs.Issuer.{issuer, answered_after};
 ghost use Rattle.cmc_rules.specs.Sound.{IsSoundTable};
 
 /// A law: each call is for the request that the controller sees, at its version, changes nothing of it but the condition

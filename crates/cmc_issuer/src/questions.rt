@@ -1,7 +1,7 @@
 //! The question to an issuer.
 ghost use Rattle.std.specs.Prelude.{◌≡◌, ◌<◌, ◌^◌, IfOk, true, false};
 ghost use Rattle.cmc_objects.specs.Requests.{is_approved, is_denied, is_request_form, is_row_form, is_run_time};
-ghost use Rattle.cmc_rules.specs.Granting as table;
+ghost use Rattle.cmc_rules.specs.Issuer as table;
 ghost use Rattle.cmc_rules.specs.Orders.{reply_row as row_for};
 
 use crate::replies::reply_row;
@@ -9,7 +9,7 @@ use cmc_objects::{CertificateRequest, Order, Shared, SignOrder};
 use cmc_pass::{Act, Desk};
 use std::alloc::{AllocError, Global};
 
-#[tactic(auto, unfolding(cmc_rules::specs::Granting::sign_order))]
+#[tactic(auto, unfolding(cmc_rules::specs::Issuer::sign_order))]
 fn sign_order(
     alloc: Global,
     request: &Shared<CertificateRequest>,
@@ -31,7 +31,7 @@ fn sign_order(
 
 /// The question about this request to its issuer: the one after those that were asked for its Certificate, with the
 /// answer that is set out for it.
-#[tactic(auto, unfolding(cmc_rules::specs::Granting::ask_issuer))]
+#[tactic(auto, unfolding(cmc_rules::specs::Issuer::ask_issuer))]
 pub fn ask_issuer(
     alloc: Global,
     request: &Shared<CertificateRequest>,

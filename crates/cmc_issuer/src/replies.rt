@@ -6,7 +6,7 @@ ghost use Rattle.cmc_meta.specs.Keys.{key_cmp};
 ghost use Rattle.cmc_meta.specs.declared.key.Kind.TheVariants.{Certificate};
 ghost use Rattle.cmc_objects.specs.Materials.{rows_under};
 ghost use Rattle.cmc_rules.specs.Desks as desks;
-ghost use Rattle.cmc_rules.specs.Granting as table;
+ghost use Rattle.cmc_rules.specs.Issuer as table;
 ghost use Rattle.cmc_rules.specs.Orders as orders;
 
 use cmc_match::text_under;

@@ -12,7 +12,7 @@ use Rattle.std.specs.Map.{keys_of}
 use Rattle.std.specs.List.{AllByRecursion}
 use Rattle.std.specs.List.Sorted.{IsStrictlySortedBy}
 use Rattle.cmc_meta.specs.PairLists.{text_by_key, with_text, without_text}
-use Rattle.cmc_rules.specs.Issuing.{without}
+use Rattle.cmc_rules.specs.Issuance.{without}
 
 abbrev Entries : Type 0
 Entries = List (List ℕ × List ℕ)

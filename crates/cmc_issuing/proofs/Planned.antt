@@ -17,10 +17,10 @@ use Rattle.cmc_answers.specs.Temporary.{temporary}
 use Rattle.cmc_pass.specs.declared.pass.Act.{Act}
 use Rattle.cmc_pass.specs.declared.pass.Act.TheVariants.{Nothing, Issue, Temporary}
 use Rattle.cmc_pass.specs.declared.pass.Views.{Views}
-use Rattle.cmc_rules.specs.Triggering.{is_issuing}
+use Rattle.cmc_rules.specs.Trigger.{is_issuing}
 use Rattle.cmc_rules.specs.NextKeys.{named_key}
 use Rattle.cmc_rules.specs.NextRequests.{is_wanted, is_refused}
-use Rattle.cmc_rules.specs.Issuing.{issued_status, status_call, failure, secret_call, issue_plan, temporary_plan, is_granted, fails_now, refusal, is_certified, is_kept_for_keys, lacks_certificate, temporary_with, while_waiting, with_granted, with_wanted, with_request, with_file, with_key_of, issuing_of, issuing}
+use Rattle.cmc_rules.specs.Issuance.{issued_status, status_call, failure, secret_call, issue_plan, temporary_plan, is_granted, fails_now, refusal, is_certified, is_kept_for_keys, lacks_certificate, temporary_with, while_waiting, with_granted, with_wanted, with_request, with_file, with_key_of, issuing_of, issuing}
 use Rattle.cmc_rules.proofs.Lines.{by_test}
 use Rattle.cmc_issuing.specs.PlanCalls.{secret_call_of, status_call_of}
 

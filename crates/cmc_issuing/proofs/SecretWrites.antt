@@ -18,10 +18,10 @@ use Rattle.cmc_objects.specs.Objects.{numbered}
 use Rattle.cmc_model.specs.Stored.{created, updated, revised}
 use Rattle.cmc_rules.specs.Passes.{writes_temporary}
 use Rattle.cmc_rules.specs.Safety.{IsSecretWrite}
-use Rattle.cmc_rules.specs.Viewing.{is_text_true, has_next_label}
-use Rattle.cmc_rules.specs.Sighting.{IsWellSeen, OnSeen}
+use Rattle.cmc_rules.specs.Views.{is_text_true, has_next_label}
+use Rattle.cmc_rules.specs.SeenObjects.{IsWellSeen, OnSeen}
 use Rattle.cmc_rules.specs.Sound.{WritesTarget}
-use Rattle.cmc_rules.specs.Issuing.{signed_marks, marks, with_ca, filled, new_target, old_target, secret_call, is_kept_for_keys}
+use Rattle.cmc_rules.specs.Issuance.{signed_marks, marks, with_ca, filled, new_target, old_target, secret_call, is_kept_for_keys}
 use Rattle.cmc_rules.proofs.Sights.{seen_secret}
 use Rattle.cmc_issuing.proofs.PairLists.{is_name, put_stands, put_beside, out_of, out_beside}
 

@@ -6,7 +6,7 @@ use Rattle.std.specs.Int.{int_div_euclid}
 use Rattle.std.proofs.lemmas.Int.{ints}
 use Rattle.std.proofs.lemmas.Bool.Decides.{nat_tests}
 use Rattle.jiff_core.specs.Calendar.{days_from_civil}
-use Rattle.cmc_der.specs.Building.{length_octets, value}
+use Rattle.cmc_der.specs.Builders.{length_octets, value}
 use Rattle.cmc_der.specs.Keys.{PublicKey, SubjectNames}
 use Rattle.cmc_time.specs.declared.moment.Moment.{Moment}
 use Rattle.cmc_time.specs.Asn1.{utc_time_text, generalized_time_text, asn1_tag, asn1_text}

@@ -2,7 +2,7 @@
 use Rattle.std.proofs.Common.{◌≡◌, ℤ, None, refl}
 use Rattle.cmc_objects.specs.declared.role.Role.TheVariants.{Issuing}
 use Rattle.cmc_pass.specs.declared.pass.Views.{Views}
-use Rattle.cmc_rules.specs.Issuing.{issuing}
+use Rattle.cmc_rules.specs.Issuance.{issuing}
 use Rattle.cmc_rules.specs.Sound.{views_shown, IsSoundTable}
 use Rattle.cmc_issuing.proofs.Table.{within}
 use Rattle.cmc_issuing.proofs.Staying.{stays, none}

@@ -16,9 +16,9 @@ use Rattle.cmc_model.proofs.Admission.{certificate_status_passes}
 use Rattle.cmc_rules.specs.Dates.{IsDatedStatus}
 use Rattle.cmc_rules.specs.Rights.{ChangesIssuance}
 use Rattle.cmc_rules.specs.Safety.{IsStatusUpdate}
-use Rattle.cmc_rules.specs.Sighting.{OnSeen}
+use Rattle.cmc_rules.specs.SeenObjects.{OnSeen}
 use Rattle.cmc_rules.specs.Sound.{IsRaiseOf, IsWithin}
-use Rattle.cmc_rules.specs.Issuing.{ended_condition, issued_status, failed_status, status_call, failure}
+use Rattle.cmc_rules.specs.Issuance.{ended_condition, issued_status, failed_status, status_call, failure}
 use Rattle.cmc_rules.proofs.Sights.{seen_certificate}
 use Rattle.cmc_rules.proofs.Conditions.{others-transitioned}
 use Rattle.cmc_rules.proofs.Dating.{dated_transitioned}

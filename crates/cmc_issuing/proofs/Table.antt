@@ -19,7 +19,7 @@ use Rattle.cmc_objects.specs.declared.call.Call.{Call}
 use Rattle.cmc_objects.specs.Requests.{is_approved, is_denied}
 use Rattle.cmc_match.specs.Facts.{key_in, fits}
 use Rattle.cmc_match.specs.Marks.{asks_for_temporary}
-use Rattle.cmc_match.specs.Matching.{matches, has_key}
+use Rattle.cmc_match.specs.Matches.{matches, has_key}
 use Rattle.cmc_match.specs.Revisions.{next_request}
 use Rattle.cmc_match.proofs.MatchLaws.{matching}
 use Rattle.cmc_answers.specs.Temporary.{temporary}
@@ -27,12 +27,12 @@ use Rattle.cmc_pass.specs.declared.pass.Views.{Views}
 use Rattle.cmc_pass.specs.declared.pass.Act.{Act}
 use Rattle.cmc_pass.specs.declared.pass.Act.TheVariants.{Nothing, Issue, Temporary}
 use Rattle.cmc_pass.specs.declared.value.Value.{Value}
-use Rattle.cmc_rules.specs.Triggering.{is_issuing}
+use Rattle.cmc_rules.specs.Trigger.{is_issuing}
 use Rattle.cmc_rules.specs.NextKeys.{is_named, named_key}
 use Rattle.cmc_rules.specs.NextRequests.{is_wanted, is_refused}
-use Rattle.cmc_rules.specs.Issuing.{issued_status, failure, issue_plan, temporary_plan, says_issued, is_granted, fails_now, refusal, is_certified, is_kept_for_keys, lacks_certificate, temporary_with, while_waiting, with_granted, with_wanted, with_request, with_file, with_key_of, issuing_of, issuing}
+use Rattle.cmc_rules.specs.Issuance.{issued_status, failure, issue_plan, temporary_plan, says_issued, is_granted, fails_now, refusal, is_certified, is_kept_for_keys, lacks_certificate, temporary_with, while_waiting, with_granted, with_wanted, with_request, with_file, with_key_of, issuing_of, issuing}
 use Rattle.cmc_rules.specs.Safety.{IsIssued}
-use Rattle.cmc_rules.specs.Sighting.{IsWellSeen}
+use Rattle.cmc_rules.specs.SeenObjects.{IsWellSeen}
 use Rattle.cmc_rules.specs.Sound.{IsReadyToIssue, IsSigned, IsMarked, IsIssuance, IsTemporaryPlan, IsWithin}
 use Rattle.cmc_rules.proofs.Sights.{found_among}
 use Rattle.cmc_rules.proofs.Lines.{by_test}

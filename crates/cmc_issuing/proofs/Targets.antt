@@ -18,14 +18,14 @@ use Rattle.cmc_keys.proofs.KindLaws.{is_key_means}
 use Rattle.cmc_objects.specs.KeyPairs.{is_one_key, fields_with_key}
 use Rattle.cmc_match.specs.Facts.{fits}
 use Rattle.cmc_match.specs.Marks.{asks_for_temporary}
-use Rattle.cmc_match.specs.Matching.{has_key}
+use Rattle.cmc_match.specs.Matches.{has_key}
 use Rattle.cmc_objects.proofs.KeyLaws.{key_found}
 use Rattle.cmc_match.proofs.MatchLaws.{keys_match}
 use Rattle.cmc_answers.specs.Signings.{certificate_of_plan}
 use Rattle.cmc_answers.specs.Temporary.{temporary_cert_plan, temporary_of, temporary}
 use Rattle.cmc_answers.proofs.IssuedLaws.{temporary_read}
 use Rattle.cmc_rules.specs.Sound.{IsTarget, IsSigned, IsMarked}
-use Rattle.cmc_rules.specs.Issuing.{is_some_pair, is_certified}
+use Rattle.cmc_rules.specs.Issuance.{is_some_pair, is_certified}
 use Rattle.cmc_issuing.proofs.SecretWrites.{HasContent}
 
 -- the certificate is readable, and its public key is that of the file

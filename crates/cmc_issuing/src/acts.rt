@@ -8,8 +8,8 @@ ghost use Rattle.cmc_x509.specs.ReadKeys.{key_file_at};
 ghost use Rattle.cmc_objects.specs.KeyPairs.{key_read};
 ghost use Rattle.cmc_objects.specs.Requests.{is_run_time};
 ghost use Rattle.cmc_pass.specs.declared.pass.Act.TheVariants.{Nothing};
-ghost use Rattle.cmc_issuing.specs.Choosing.{issuing_act_of};
-ghost use Rattle.cmc_rules.specs.Issuing as table;
+ghost use Rattle.cmc_issuing.specs.Choices.{issuing_act_of};
+ghost use Rattle.cmc_rules.specs.Issuance as table;
 ghost use Rattle.cmc_rules.specs.NextRequests.{HasNextRevision};
 
 use crate::choices::{Choice, build, is_nothing};
@@ -253,7 +253,7 @@ fn choose<'a>(
 /// stands in. A Secret that holds a next key itself is never written.
 ///
 /// `now` is the moment of the pass, in seconds since 1970-01-01T00:00:00Z. The desk is not looked at.
-#[tactic(auto, unfolding(cmc_rules::specs::Issuing::issuing))]
+#[tactic(auto, unfolding(cmc_rules::specs::Issuance::issuing))]
 pub fn act(alloc: Global, views: &Views, now: i64, _desk: &Desk) -> Result<Act, AllocError>
     requires time { is_run_time now ≡ true }
     requires revision { HasNextRevision views.now.certificate }
@@ -268,7 +268,7 @@ pub fn act(alloc: Global, views: &Views, now: i64, _desk: &Desk) -> Result<Act, 
 
 /// Whether the controller has nothing to do on these views at the moment `now`: whether its act is none. It builds
 /// nothing of the act but a certificate that stands in.
-#[tactic(auto, unfolding(cmc_rules::specs::Issuing::issuing))]
+#[tactic(auto, unfolding(cmc_rules::specs::Issuance::issuing))]
 pub fn is_idle(alloc: Global, views: &Views, now: i64) -> Result<bool, AllocError>
     requires time { is_run_time now ≡ true }
     requires revision { HasNextRevision views.now.certificate }

@@ -3,7 +3,7 @@ ghost use Rattle.std.specs.Prelude.{◌≡◌, ◌↔◌, ℤ, IfOk, IsTrue, Opt
 ghost use Rattle.cmc_objects.specs.declared.certificate.Certificate.{Certificate as CertificateValue};
 ghost use Rattle.cmc_objects.specs.declared.secret.Secret.{Secret as SecretValue};
 ghost use Rattle.cmc_pass.specs.declared.pass.Act.TheVariants.{Nothing};
-ghost use Rattle.cmc_issuing.specs.Choosing.{issuing_act_of};
+ghost use Rattle.cmc_issuing.specs.Choices.{issuing_act_of};
 ghost use Rattle.cmc_rules.specs.NextRequests.{HasNextRevision};
 
 use crate::plans::{issue_plan, temporary_plan};
@@ -35,7 +35,7 @@ pub enum Choice<'a> {
 }
 
 /// Whether nothing is chosen, at whatever moment and for whatever Certificate and Secret.
-#[tactic(auto, unfolding(cmc_rules::specs::Issuing::failure))]
+#[tactic(auto, unfolding(cmc_rules::specs::Issuance::failure))]
 pub fn is_nothing(choice: &Choice<'_>) -> bool
     ensures { (moment : ℤ) (certificate : CertificateValue) (target : Option SecretValue) → IsTrue result ↔ (issuing_act_of moment certificate target choice.now ≡ Nothing) }
 {

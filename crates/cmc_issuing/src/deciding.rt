@@ -4,7 +4,7 @@ ghost use Rattle.std.specs.Prelude.{◌≡◌, option_map};
 ghost use Rattle.cmc_der.specs.Keys.{key_shown};
 ghost use Rattle.cmc_x509.specs.ReadKeys.{key_file_at};
 ghost use Rattle.cmc_match.specs.Facts as facts;
-ghost use Rattle.cmc_rules.specs.Issuing as table;
+ghost use Rattle.cmc_rules.specs.Issuance as table;
 
 use cmc_match::{is_next_key, is_one_key, is_temporary, pair_in};
 use cmc_meta::{Condition, ConditionKind, Tri};

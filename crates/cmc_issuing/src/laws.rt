@@ -1,7 +1,7 @@
 //! What is proved of the controller's table.
 ghost use Rattle.std.specs.Prelude.{None};
 ghost use Rattle.cmc_objects.specs.declared.role.Role.TheVariants.{Issuing};
-ghost use Rattle.cmc_rules.specs.Issuing.{issuing};
+ghost use Rattle.cmc_rules.specs.Issuance.{issuing};
 ghost use Rattle.cmc_rules.specs.Sound.{IsSoundTable};
 
 /// A law: each call is for the Certificate or the Secret that the controller sees, at its version, or makes that Secret;

@@ -2,7 +2,7 @@
 ghost use Rattle.std.specs.Prelude.{◌≡◌, [], IfOk, Some, false, true};
 ghost use Rattle.cmc_objects.specs.declared.object.Object.TheVariants.{Cert};
 ghost use Rattle.cmc_objects.specs.Objects as objects;
-ghost use Rattle.cmc_rules.specs.Issuing as table;
+ghost use Rattle.cmc_rules.specs.Issuance as table;
 ghost use Rattle.cmc_rules.specs.NextRequests.{HasNextRevision};
 
 use crate::secrets::{Content, secret_call};
@@ -42,7 +42,7 @@ pub fn issued_secret(
 }
 
 /// The end of an issuance: the Secret with the key of the file and the certificate of the request, and the status.
-#[tactic(auto, unfolding(cmc_rules::specs::Issuing::issue_plan))]
+#[tactic(auto, unfolding(cmc_rules::specs::Issuance::issue_plan))]
 pub fn issue_plan(
     alloc: Global,
     moment: i64,
@@ -86,7 +86,7 @@ pub fn marked_secret(
 }
 
 /// The Secret with the key of the file and a certificate that stands in.
-#[tactic(auto, unfolding(cmc_rules::specs::Issuing::temporary_plan))]
+#[tactic(auto, unfolding(cmc_rules::specs::Issuance::temporary_plan))]
 pub fn temporary_plan(
     alloc: Global,
     certificate: &Certificate,

@@ -1,7 +1,7 @@
 //! The Secret that the controller writes.
 ghost use Rattle.std.specs.Prelude.{◌≡◌, [], IfOk, OnOk, codes, pos};
 ghost use Rattle.cmc_meta.specs.PairLists.{with_text};
-ghost use Rattle.cmc_rules.specs.Issuing as table;
+ghost use Rattle.cmc_rules.specs.Issuance as table;
 
 use cmc_meta::{Bytes, ObjectMeta, Owners, Pairs, Text};
 use cmc_objects::{Call, Certificate, Object, Parts, Secret, Shared};
@@ -25,7 +25,7 @@ fn put_mark(alloc: Global, marks: &mut Pairs, name: &str, text: &str) -> Result<
     marks.set(name, text)
 }
 
-#[tactic(auto, unfolding(cmc_rules::specs::Issuing::signed_marks))]
+#[tactic(auto, unfolding(cmc_rules::specs::Issuance::signed_marks))]
 fn signed_marks(alloc: Global, certificate: &Certificate, marks: Pairs) -> Result<Pairs, AllocError>
     ensures { IfOk result (λ p. p ≡ table.signed_marks certificate.now marks) }
 {
@@ -84,7 +84,7 @@ fn drop_stand_in(alloc: Global, marks: &mut Pairs) -> Result<(), AllocError>
     drop_mark(marks, &name)
 }
 
-#[tactic(auto, unfolding(cmc_rules::specs::Issuing::marks))]
+#[tactic(auto, unfolding(cmc_rules::specs::Issuance::marks))]
 fn marks(
     alloc: Global,
     stand_in: bool,
@@ -128,7 +128,7 @@ fn put_ca(alloc: Global, parts: &mut Parts, ca: &Bytes) -> Result<(), AllocError
     Ok(())
 }
 
-#[tactic(auto, unfolding(cmc_rules::specs::Issuing::filled))]
+#[tactic(auto, unfolding(cmc_rules::specs::Issuance::filled))]
 fn filled(alloc: Global, content: &Content<'_>, parts: Parts) -> Result<Parts, AllocError>
     ensures { IfOk result (λ p. p ≡ table.filled content.now.key.now content.now.certificate.now content.now.ca.now parts) }
 {
@@ -169,7 +169,7 @@ fn new_meta(
     })
 }
 
-#[tactic(auto, unfolding(cmc_rules::specs::Issuing::new_target))]
+#[tactic(auto, unfolding(cmc_rules::specs::Issuance::new_target))]
 fn new_target(
     alloc: Global,
     certificate: &Certificate,
@@ -200,7 +200,7 @@ fn old_meta(
     Ok(changed)
 }
 
-#[tactic(auto, unfolding(cmc_rules::specs::Issuing::old_target))]
+#[tactic(auto, unfolding(cmc_rules::specs::Issuance::old_target))]
 fn old_target(
     alloc: Global,
     certificate: &Certificate,
@@ -220,7 +220,7 @@ fn old_target(
 
 /// The create of the Certificate's Secret, or its update at the version that it has, with this content. What it does
 /// not name stays.
-#[tactic(auto, unfolding(cmc_rules::specs::Issuing::secret_call))]
+#[tactic(auto, unfolding(cmc_rules::specs::Issuance::secret_call))]
 pub fn secret_call(
     alloc: Global,
     certificate: &Certificate,

@@ -1,6 +1,6 @@
 //! The status that the controller writes.
 ghost use Rattle.std.specs.Prelude.{◌≡◌, ◌+◌, ◌-◌, ◌<◌, ◌^◌, IfOk, Some, codes, min, unwrap_or};
-ghost use Rattle.cmc_rules.specs.Issuing as table;
+ghost use Rattle.cmc_rules.specs.Issuance as table;
 ghost use Rattle.cmc_rules.specs.NextRequests.{HasNextRevision};
 
 use cmc_meta::{Condition, ConditionKind, Text, Tri};
@@ -8,7 +8,7 @@ use cmc_objects::{Call, CertStatus, Certificate, Object, Shared};
 use cmc_pass::Act;
 use std::alloc::{AllocError, Global};
 
-#[tactic(auto, unfolding(cmc_rules::specs::Issuing::ended_condition))]
+#[tactic(auto, unfolding(cmc_rules::specs::Issuance::ended_condition))]
 fn ended_condition(
     alloc: Global,
     moment: i64,
@@ -48,7 +48,7 @@ fn failed_condition(alloc: Global, moment: i64, reason: &str) -> Result<Conditio
     )
 }
 
-#[tactic(auto, unfolding(cmc_rules::specs::Issuing::issued_status))]
+#[tactic(auto, unfolding(cmc_rules::specs::Issuance::issued_status))]
 fn issued_status(alloc: Global, moment: i64, status: &CertStatus) -> Result<CertStatus, AllocError>
     requires { unwrap_or status.now.revision 0 < 2 ^ 63 }
     ensures { IfOk result (λ s. s ≡ table.issued_status moment status.now) }
@@ -68,7 +68,7 @@ fn one_more(attempts: Option<u32>) -> u32
     attempts.unwrap_or(0).saturating_add(1)
 }
 
-#[tactic(auto, unfolding(cmc_rules::specs::Issuing::failed_status))]
+#[tactic(auto, unfolding(cmc_rules::specs::Issuance::failed_status))]
 fn failed_status(
     alloc: Global,
     moment: i64,
@@ -86,7 +86,7 @@ fn failed_status(
     Ok(changed)
 }
 
-#[tactic(auto, unfolding(cmc_rules::specs::Issuing::status_call))]
+#[tactic(auto, unfolding(cmc_rules::specs::Issuance::status_call))]
 fn status_call(
     alloc: Global,
     status: CertStatus,
@@ -120,7 +120,7 @@ pub fn issued_call(
 }
 
 /// The status update, at the version of the Certificate, that ends its issuance with a failure for this reason.
-#[tactic(auto, unfolding(cmc_rules::specs::Issuing::failure))]
+#[tactic(auto, unfolding(cmc_rules::specs::Issuance::failure))]
 pub fn failure(
     alloc: Global,
     moment: i64,

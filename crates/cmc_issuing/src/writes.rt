@@ -4,7 +4,7 @@ ghost use Rattle.std.specs.Option.{option_copied};
 ghost use Rattle.std.specs.Prelude.{◌≡◌, IfOk, IsSome, Some, true};
 ghost use Rattle.cmc_objects.specs.Requests.{is_run_time};
 ghost use Rattle.cmc_issuing.specs.PlanCalls as calls;
-ghost use Rattle.cmc_rules.specs.Issuing as table;
+ghost use Rattle.cmc_rules.specs.Issuance as table;
 ghost use Rattle.cmc_rules.specs.NextRequests.{HasNextRevision};
 
 use crate::deciding::is_granted;

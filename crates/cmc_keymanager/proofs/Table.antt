@@ -24,10 +24,10 @@ use Rattle.cmc_pass.specs.declared.value.Value.{Value}
 use Rattle.cmc_pass.specs.declared.value.Value.TheVariants.{Made, Signed, Answered, Judged}
 use Rattle.cmc_pass.specs.Values.{IsValue}
 use Rattle.cmc_rules.specs.Admitted.{MeetsRules}
-use Rattle.cmc_rules.specs.Triggering.{is_issuing}
+use Rattle.cmc_rules.specs.Trigger.{is_issuing}
 use Rattle.cmc_rules.specs.NextKeys.{is_named, has_fitting_key}
-use Rattle.cmc_rules.specs.KeyManaging.{drop_call, make_call, key_order, ask_key, target_key, reused, rotated, only_key, dropped, while_issuing, unnamed, while_idle, keys_of, key_manager, kept_for, key_after}
-use Rattle.cmc_rules.specs.Sighting.{IsAmong, IsWellSeen}
+use Rattle.cmc_rules.specs.KeyManager.{drop_call, make_call, key_order, ask_key, target_key, reused, rotated, only_key, dropped, while_issuing, unnamed, while_idle, keys_of, key_manager, kept_for, key_after}
+use Rattle.cmc_rules.specs.SeenObjects.{IsAmong, IsWellSeen}
 use Rattle.cmc_rules.specs.Sound.{IsFollowed, IsWithin}
 use Rattle.cmc_rules.proofs.Sights.{seen_certificate, found_among}
 use Rattle.cmc_rules.proofs.Lines.{by_test, by_both}

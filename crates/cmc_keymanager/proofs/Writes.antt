@@ -11,10 +11,10 @@ use Rattle.cmc_model.specs.Generated.{named}
 use Rattle.cmc_objects.specs.Objects.{numbered}
 use Rattle.cmc_model.specs.Stored.{created, with_status}
 use Rattle.cmc_model.proofs.Admission.{certificate_status_passes}
-use Rattle.cmc_rules.specs.Viewing.{has_next_label}
-use Rattle.cmc_rules.specs.KeyManaging.{name_call, drop_call, key_secret, make_call, key_after}
-use Rattle.cmc_rules.specs.Owning.{owned_meta}
-use Rattle.cmc_rules.specs.Sighting.{IsAmong, OnSeen}
+use Rattle.cmc_rules.specs.Views.{has_next_label}
+use Rattle.cmc_rules.specs.KeyManager.{name_call, drop_call, key_secret, make_call, key_after}
+use Rattle.cmc_rules.specs.Owners.{owned_meta}
+use Rattle.cmc_rules.specs.SeenObjects.{IsAmong, OnSeen}
 use Rattle.cmc_rules.specs.Sound.{IsOrdinary, IsWriteAfterValue, IsWithin}
 use Rattle.cmc_rules.proofs.Sights.{seen_certificate, seen_next}
 

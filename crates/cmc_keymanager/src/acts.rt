@@ -4,7 +4,7 @@ ghost use Rattle.std.specs.Prelude.{◌≡◌, ◌<◌, ◌^◌, IfOk, find, is_
 ghost use Rattle.cmc_der.specs.Keys.{key_shown};
 ghost use Rattle.cmc_x509.specs.ReadKeys.{key_file_at};
 ghost use Rattle.cmc_objects.specs.KeyPairs.{key_read};
-ghost use Rattle.cmc_rules.specs.KeyManaging as table;
+ghost use Rattle.cmc_rules.specs.KeyManager as table;
 ghost use Rattle.cmc_rules.specs.NextKeys as words;
 
 use crate::calls::{drop_call, make_call, name_call};
@@ -197,7 +197,7 @@ fn keys_for(
 /// Deletions and status updates name the version that is seen.
 ///
 /// Fewer than 2^63 questions were asked before (`desk.asked`): the next one has a number.
-#[tactic(auto, unfolding(cmc_rules::specs::KeyManaging::key_manager))]
+#[tactic(auto, unfolding(cmc_rules::specs::KeyManager::key_manager))]
 pub fn act(alloc: Global, views: &Views, now: i64, desk: &Desk) -> Result<Act, AllocError>
     requires { desk.now.asked < 2 ^ 63 }
     ensures { IfOk result (λ a. a ≡ table.key_manager views.now desk.now) }

@@ -1,7 +1,7 @@
 //! What the controller writes.
 ghost use Rattle.std.specs.Prelude.{◌≡◌, [], IfOk, codes};
 ghost use Rattle.cmc_meta.specs.PairLists.{with_text};
-ghost use Rattle.cmc_rules.specs.KeyManaging as table;
+ghost use Rattle.cmc_rules.specs.KeyManager as table;
 
 use cmc_meta::{Bytes, Key, Kind, Name, Pairs, Text};
 use cmc_next::owned_meta;
@@ -40,7 +40,7 @@ fn with_next_key(
 }
 
 /// The status update, at the version of the Certificate, that names the next key, or none.
-#[tactic(auto, unfolding(cmc_rules::specs::KeyManaging::name_call))]
+#[tactic(auto, unfolding(cmc_rules::specs::KeyManager::name_call))]
 pub fn name_call(
     alloc: Global,
     name: Option<Name>,
@@ -56,7 +56,7 @@ pub fn name_call(
 }
 
 /// The deletion of the key, at its version.
-#[tactic(auto, unfolding(cmc_rules::specs::KeyManaging::drop_call))]
+#[tactic(auto, unfolding(cmc_rules::specs::KeyManager::drop_call))]
 pub fn drop_call(secret: &Secret) -> Result<Act, AllocError>
     ensures { IfOk result (λ a. a ≡ table.drop_call secret.now) }
 {
@@ -89,7 +89,7 @@ fn key_part(alloc: Global, file: Bytes) -> Result<Parts, AllocError>
     Ok(parts)
 }
 
-#[tactic(auto, unfolding(cmc_rules::specs::KeyManaging::key_secret))]
+#[tactic(auto, unfolding(cmc_rules::specs::KeyManager::key_secret))]
 fn key_secret(alloc: Global, certificate: &Certificate, file: Bytes) -> Result<Secret, AllocError>
     ensures { IfOk result (λ s. s ≡ table.key_secret certificate.now file) }
 {
@@ -105,7 +105,7 @@ fn key_secret(alloc: Global, certificate: &Certificate, file: Bytes) -> Result<S
 
 /// The create of an opaque Secret that holds this key alone, with the label of a next key and owned by the Certificate,
 /// under a name that is generated.
-#[tactic(auto, unfolding(cmc_rules::specs::KeyManaging::make_call))]
+#[tactic(auto, unfolding(cmc_rules::specs::KeyManager::make_call))]
 pub fn make_call(alloc: Global, certificate: &Certificate, file: Bytes) -> Result<Call, AllocError>
     ensures { IfOk result (λ c. c ≡ table.make_call certificate.now file) }
 {

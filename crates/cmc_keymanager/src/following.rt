@@ -1,9 +1,9 @@
 //! The call that follows a value.
 ghost use Rattle.std.specs.Prelude.{◌≡◌, IfOk, IsSome, Some};
 ghost use Rattle.cmc_next.specs.Questions.{IsQuestionOf};
-ghost use Rattle.cmc_pass.specs.Giving.{order_of, value_of};
+ghost use Rattle.cmc_pass.specs.GivenValues.{order_of, value_of};
 ghost use Rattle.cmc_pass.specs.Values.{IsValue};
-ghost use Rattle.cmc_rules.specs.KeyManaging as table;
+ghost use Rattle.cmc_rules.specs.KeyManager as table;
 
 use crate::calls::make_call;
 use cmc_next::value_in;
@@ -29,7 +29,7 @@ fn kept_for(alloc: Global, views: &Views, value: &Value) -> Result<Option<Call>,
     }
 }
 
-#[tactic(auto, unfolding(cmc_rules::specs::KeyManaging::key_after))]
+#[tactic(auto, unfolding(cmc_rules::specs::KeyManager::key_after))]
 fn followed(
     alloc: Global,
     views: &Views,

@@ -1,6 +1,6 @@
 //! What is proved of the controller's table.
 ghost use Rattle.cmc_objects.specs.declared.role.Role.TheVariants.{KeyManager};
-ghost use Rattle.cmc_rules.specs.KeyManaging.{key_manager, key_after};
+ghost use Rattle.cmc_rules.specs.KeyManager.{key_manager, key_after};
 ghost use Rattle.cmc_rules.specs.Sound.{IsSoundTable};
 
 /// A law: each call is for what the controller sees, at its version, and makes or takes away a Secret with the label of

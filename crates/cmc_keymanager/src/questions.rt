@@ -3,7 +3,7 @@ ghost use Rattle.std.specs.Prelude.{◌≡◌, ◌<◌, ◌^◌, IfOk, slice_get
 ghost use Rattle.cmc_objects.specs.Objects.{key_of};
 ghost use Rattle.cmc_objects.specs.declared.object.Object.TheVariants as objects;
 ghost use Rattle.cmc_objects.specs.declared.rows.KeyRow.TheVariants.{Default};
-ghost use Rattle.cmc_rules.specs.KeyManaging as table;
+ghost use Rattle.cmc_rules.specs.KeyManager as table;
 ghost use Rattle.cmc_rules.specs.Orders as orders;
 
 use cmc_meta::{Key, Kind};
@@ -40,7 +40,7 @@ fn key_of_certificate(certificate: &Certificate) -> Result<Key, AllocError>
     })
 }
 
-#[tactic(auto, unfolding(cmc_rules::specs::KeyManaging::key_order))]
+#[tactic(auto, unfolding(cmc_rules::specs::KeyManager::key_order))]
 fn key_order(certificate: &Certificate, desk: &Desk) -> Result<KeyOrder, AllocError>
     requires { desk.now.asked < 2 ^ 63 }
     ensures { IfOk result (λ o. o ≡ table.key_order certificate.now desk.now) }
@@ -59,7 +59,7 @@ fn key_order(certificate: &Certificate, desk: &Desk) -> Result<KeyOrder, AllocEr
 
 /// The question for a key of the kind that the Certificate asks for: the one after those that were asked, with its
 /// row.
-#[tactic(auto, unfolding(cmc_rules::specs::KeyManaging::ask_key))]
+#[tactic(auto, unfolding(cmc_rules::specs::KeyManager::ask_key))]
 pub fn ask_key(alloc: Global, certificate: &Certificate, desk: &Desk) -> Result<Act, AllocError>
     requires { desk.now.asked < 2 ^ 63 }
     ensures { IfOk result (λ a. a ≡ table.ask_key certificate.now desk.now) }

@@ -2,11 +2,11 @@
 use Rattle.std.proofs.Common.{◌≡◌, ◌≢◌, ℕ, ◌+◌, ◌%◌, ◌≤◌, List, [], ◌∷◌, ◌++◌, length, Some, None, refl, sym, subst, arith, append_assoc, length-append}
 use Rattle.cmc_der.specs.declared.fields.KeyKind.{KeyKind}
 use Rattle.cmc_der.specs.Values.{BeginsWith}
-use Rattle.cmc_der.specs.Building.{value}
+use Rattle.cmc_der.specs.Builders.{value}
 use Rattle.cmc_der.specs.Integers.{integer_of}
 use Rattle.cmc_der.specs.Keys.{PublicKey}
 use Rattle.cmc_der.proofs.Sizes.{value_size, integer_size}
-use Rattle.cmc_x509.specs.Taking.{BeginsOtherwise}
+use Rattle.cmc_x509.specs.Options.{BeginsOtherwise}
 use Rattle.cmc_x509.specs.PublicKeys.{AlgorithmIdentifier, BeginsWithAlgorithm, NamesCurve, IsPoint}
 use Rattle.cmc_x509.specs.KeyFiles.{IsIntegers, IsRsaPrivateKey, IsEcPrivateKey, IsPrivateKeyOf, IsPrivateKeyInfo}
 use Rattle.cmc_keys.specs.Files.{one, public_key, rsa_private_key, ec_private_key, bare_ec_private_key, private_key_info}

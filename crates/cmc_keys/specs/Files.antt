@@ -1,7 +1,7 @@
 -- Files of private keys as they are written: RSAPrivateKey (RFC 8017, A.1.2), ECPrivateKey (RFC 5915, 3) and
 -- PrivateKeyInfo (RFC 5208, 5).
 use Rattle.std.specs.Prelude.{ℕ, List, [], ◌∷◌, ◌++◌}
-use Rattle.cmc_der.specs.Building.{value}
+use Rattle.cmc_der.specs.Builders.{value}
 use Rattle.cmc_der.specs.Integers.{integer_of}
 
 -- the INTEGER 1

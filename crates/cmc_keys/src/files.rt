@@ -1,6 +1,6 @@
 //! Files of private keys, written in DER.
 ghost use Rattle.std.specs.Prelude.{◌≡◌, ◌≢◌, ◌+◌, ◌%◌, ◌^◌, ◌<◌, ◌∷◌, [], length, IfOk, OnOk};
-ghost use Rattle.cmc_der.specs.Building.{value_added, value_begun, value_closed};
+ghost use Rattle.cmc_der.specs.Builders.{value_added, value_begun, value_closed};
 ghost use Rattle.cmc_keys.specs.Files as spec;
 
 use cmc_der::Writer;

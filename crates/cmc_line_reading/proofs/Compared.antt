@@ -5,7 +5,7 @@ use Rattle.serde_json.specs.Data.{Data, depth}
 use Rattle.serde_json.specs.Read.{read, max_depth}
 use Rattle.serde_json.specs.Written.{compact_text}
 use Rattle.serde_json.proofs.Nesting.{depth-read}
-use Rattle.cmc_cursor.specs.Reading.{Path, Read, Gives}
+use Rattle.cmc_cursor.specs.Members.{Path, Read, Gives}
 use Rattle.cmc_cursor.specs.declared.error.BadField.{BadField}
 use Rattle.cmc_cursor.specs.declared.error.BadField.TheVariants as bad
 use Rattle.cmc_report.specs.Trees.{entry_tree}

@@ -5,7 +5,7 @@ use Rattle.std.specs.declared.result.Result.{Result}
 use Rattle.serde_json.specs.Data.{Data}
 use Rattle.cmc_setup.specs.declared.scenario.Scenario.{Scenario}
 use Rattle.cmc_scenario.specs.Scenarios.{scenario_at}
-use Rattle.cmc_cursor.specs.Reading.{Read}
+use Rattle.cmc_cursor.specs.Members.{Read}
 use Rattle.cmc_summary.specs.declared.summary.Summary.{Summary}
 use Rattle.cmc_summary_form.specs.SummaryForm.{summary_read_at}
 use Rattle.cmc_report.specs.Trees.{entry_tree, summary_tree}

@@ -3,7 +3,7 @@ use Rattle.std.proofs.Common.{◌≡◌, ◌∷◌, [], ℕ, List, true, false, 
 use Rattle.std.specs.Prelude.{is_some}
 use Rattle.serde_json.specs.Data.{Data}
 use Rattle.serde_json.specs.Find.{get}
-use Rattle.cmc_cursor.specs.Reading.{Path, Read, Gives}
+use Rattle.cmc_cursor.specs.Members.{Path, Read, Gives}
 use Rattle.cmc_cursor.specs.declared.error.BadField.{BadField}
 use Rattle.cmc_cursor.specs.declared.error.BadField.TheVariants as bad
 use Rattle.cmc_report.specs.Trees.{entry_tree, summary_tree}

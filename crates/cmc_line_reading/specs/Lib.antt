@@ -1,4 +1,4 @@
 pub mod Histories
 pub mod Bodies
-pub mod Nesting
+pub mod Depths
 pub mod Scenarios

@@ -3,7 +3,7 @@ ghost use Rattle.std.specs.Prelude.{◌≡◌, ◌≤◌, ◌↔◌, IsTrue};
 ghost use Rattle.serde_json.specs.Data.{depth};
 ghost use Rattle.serde_json.specs.Read.{max_depth};
 ghost use Rattle.serde_json.specs.View.{view, items_view, members_view};
-ghost use Rattle.cmc_line_reading.specs.Nesting.{is_nested_within, items_within, members_within};
+ghost use Rattle.cmc_line_reading.specs.Depths.{is_nested_within, items_within, members_within};
 
 use serde_json::{Map, Value};
 

@@ -5,7 +5,7 @@ use Rattle.std.specs.List.{cons_option}
 use Rattle.std.proofs.lemmas.Bool.{eqb-true, eq-eqb, false≢true, and_from, and_parts}
 use Rattle.std.proofs.lemmas.Slice.Eq.{bytes_eq-Decides}
 use Rattle.cmc_der.specs.Keys.{PublicKey, RequestFields, SubjectNames}
-use Rattle.cmc_x509.specs.Taking.{Value}
+use Rattle.cmc_x509.specs.Options.{Value}
 use Rattle.cmc_x509.specs.Lists.{IsValues, IsValueList}
 use Rattle.cmc_x509.specs.Certificates.{IsRequest}
 use Rattle.cmc_x509.specs.ReadCertificates.{request_fields_at}
@@ -24,7 +24,7 @@ use Rattle.cmc_objects.specs.Defaults.{certificate_duration}
 use Rattle.cmc_objects.proofs.KeyLaws.{key_found, key_itself}
 use Rattle.cmc_match.specs.Sets.{IsSameSet}
 use Rattle.cmc_match.specs.SubjectNames.{names_tagged, addresses, Writes, HasSubjectNames, values_of, addresses_written, has_names}
-use Rattle.cmc_match.specs.Matching.{IsSameIssuer, Matches, HasKey, is_same_issuer, is_same_flag, has_terms, asks_for_names, matches, is_one_of, has_key}
+use Rattle.cmc_match.specs.Matches.{IsSameIssuer, Matches, HasKey, is_same_issuer, is_same_flag, has_terms, asks_for_names, matches, is_one_of, has_key}
 use Rattle.cmc_match.proofs.SetLaws.{contains_here, contains_later, contains_cases, sets}
 use Rattle.cmc_match.proofs.NameLaws.{values_are}
 

@@ -12,7 +12,7 @@ use Rattle.cmc_objects.specs.declared.key_spec.KeySpec.{KeySpec}
 use Rattle.cmc_objects.specs.declared.secret.Secret.{Secret}
 use Rattle.cmc_objects.specs.declared.certificate.CertSpec.{CertSpec}
 use Rattle.cmc_objects.specs.declared.request.CertificateRequest.{CertificateRequest}
-use Rattle.cmc_match.specs.Matching.{Matches, HasKey, matches, has_key, request_read}
+use Rattle.cmc_match.specs.Matches.{Matches, HasKey, matches, has_key, request_read}
 use Rattle.cmc_match.specs.Facts.{key_in, is_requested, is_requested_as_read, has_requested_key}
 use Rattle.cmc_match.proofs.MatchLaws.{matching, keys_match}
 

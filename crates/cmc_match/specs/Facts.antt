@@ -16,7 +16,7 @@ use Rattle.cmc_objects.specs.KeyPairs.{pair_of, is_paired, begins, ends}
 use Rattle.cmc_policies.specs.Reasons.{Known}
 use Rattle.cmc_keys.specs.Kinds.{IsKeyOf, is_key_of, is_public_of}
 use Rattle.cmc_match.specs.Marks.{has_text, is_temporary}
-use Rattle.cmc_match.specs.Matching.{HasKey, is_one_of, matches, has_key}
+use Rattle.cmc_match.specs.Matches.{HasKey, is_one_of, matches, has_key}
 use Rattle.cmc_match.specs.Revisions.{current_request}
 
 -- the private key of the Secret, and its certificate, both in DER

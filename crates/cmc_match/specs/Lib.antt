@@ -1,6 +1,6 @@
 pub mod Sets
 pub mod Marks
 pub mod SubjectNames
-pub mod Matching
+pub mod Matches
 pub mod Facts
 pub mod Revisions

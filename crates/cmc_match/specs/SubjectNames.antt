@@ -3,7 +3,7 @@ use Rattle.std.specs.Prelude.{◌≡◌, ℕ, ◌==◌, ◌↔◌, Bool, false, 
 use Rattle.std.specs.Str.{bytes_eq}
 use Rattle.std.specs.List.{filter_map}
 use Rattle.cmc_der.specs.Keys.{SubjectNames}
-use Rattle.cmc_x509.specs.Taking.{Value}
+use Rattle.cmc_x509.specs.Options.{Value}
 use Rattle.cmc_x509.specs.Lists.{IsValues, values_at}
 use Rattle.cmc_x509_build.specs.Addresses.{IsAddress, address_at}
 use Rattle.cmc_objects.specs.declared.certificate.CertSpec.{CertSpec}

@@ -7,7 +7,7 @@ ghost use Rattle.cmc_time.specs.Asn1.{IsCertificateTime};
 ghost use Rattle.cmc_policies.specs.Reasons.{known};
 ghost use Rattle.cmc_objects.specs.KeyPairs.{begins, ends, is_paired, key_read};
 ghost use Rattle.cmc_match.specs.Facts as words;
-ghost use Rattle.cmc_match.specs.Matching.{request_read};
+ghost use Rattle.cmc_match.specs.Matches.{request_read};
 ghost use Rattle.cmc_match.specs.Facts.{IsPair, IsFilled, NamesIssuer, NamesOwner, HasRequestedKey};
 ghost use Rattle.cmc_objects.specs.declared.issuer.IssuerRef.{IssuerRef};
 ghost use Rattle.cmc_objects.specs.declared.secret.Secret.{Secret};

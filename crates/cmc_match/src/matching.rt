@@ -7,8 +7,8 @@ ghost use Rattle.cmc_x509.specs.ReadCertificates.{request_fields_at};
 ghost use Rattle.cmc_objects.specs.Defaults.{certificate_duration, key_algorithm, key_size};
 ghost use Rattle.cmc_keys.specs.Kinds.{IsKeyOf, is_key_of};
 ghost use Rattle.cmc_keys.specs.Kinds as kinds;
-ghost use Rattle.cmc_match.specs.Matching as words;
-ghost use Rattle.cmc_match.specs.Matching.{Matches, HasKey};
+ghost use Rattle.cmc_match.specs.Matches as words;
+ghost use Rattle.cmc_match.specs.Matches.{Matches, HasKey};
 
 use crate::names::has_names;
 use crate::sets::is_same_set;
@@ -69,7 +69,7 @@ fn duration_of(request: &RequestSpec) -> u64
     }
 }
 
-#[tactic(auto, unfolding(crate::specs::Matching::has_terms))]
+#[tactic(auto, unfolding(crate::specs::Matches::has_terms))]
 fn has_terms(spec: &CertSpec, request: &RequestSpec) -> bool
     ensures { result ≡ words.has_terms spec.now request.now }
 {
@@ -98,7 +98,7 @@ fn asks_for_names(spec: &CertSpec, asked: &Option<CsrFields<'_>>) -> bool
 }
 
 /// Whether the request asks for what the specification asks for, where this was read of its certification request.
-#[tactic(auto, unfolding(crate::specs::Matching::matches))]
+#[tactic(auto, unfolding(crate::specs::Matches::matches))]
 pub(crate) fn matches_as_read(
     spec: &CertSpec,
     request: &CertificateRequest,
@@ -137,14 +137,14 @@ pub(crate) fn is_one_of(key: &Option<Spki<'_>>, asked: &Option<CsrFields<'_>>) -
     }
 }
 
-#[tactic(auto, unfolding(crate::specs::Matching::has_key))]
+#[tactic(auto, unfolding(crate::specs::Matches::has_key))]
 fn has_key(request: &CertificateRequest, file: &[u8]) -> bool
     ensures { result ≡ words.has_key request.now file.now }
 {
     is_one_of(&public_of(file), &fields_of(request))
 }
 
-#[tactic(auto, unfolding(crate::specs::Matching::has_key))]
+#[tactic(auto, unfolding(crate::specs::Matches::has_key))]
 fn has_key_as_read(
     request: &CertificateRequest,
     file: &[u8],

@@ -5,7 +5,7 @@ use Rattle.std.specs.List.{list_all}
 use Rattle.std.proofs.lemmas.Bool.Decides.{nat_tests}
 use Rattle.std.proofs.lemmas.Bool.{and_from}
 use Rattle.serde_json.specs.Data.{Data, null, boolean, number, string, array, object, Items, no_items, item}
-use Rattle.cmc_cursor.specs.Reading.{Read, ◌>>=◌, under}
+use Rattle.cmc_cursor.specs.Members.{Read, ◌>>=◌, under}
 use Rattle.cmc_cursor.specs.Readers.{count_at}
 use Rattle.cmc_cursor.proofs.Always.{Always, so, failed, next, after, below, where_true, further}
 use Rattle.cmc_material.specs.Lists.{numbered_at, numbered_below, items_from, list_at, member_or, member_option, bounded_at}

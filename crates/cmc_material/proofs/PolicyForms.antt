@@ -13,12 +13,12 @@ use Rattle.cmc_policy_rules.specs.declared.policy.Policy.{Policy}
 use Rattle.cmc_objects.specs.declared.orders.Rules.{Rules}
 use Rattle.cmc_objects.specs.Requests.{is_duration_form}
 use Rattle.cmc_time.specs.Durations.{longest, IsDuration}
-use Rattle.cmc_time.specs.DurationReading.{duration_seconds}
+use Rattle.cmc_time.specs.DurationTexts.{duration_seconds}
 use Rattle.cmc_time.proofs.DurationLaws.{duration_found}
 use Rattle.cmc_x509_build.specs.Addresses.{IsAddress, address_at}
 use Rattle.cmc_x509_build.proofs.AddressLaws.{address_found}
 use Rattle.cmc_setup.specs.Forms.{is_pattern_form, is_any_address, is_address_form, is_short_list, is_short_option, are_names_formed, is_policy_form, is_approver_form}
-use Rattle.cmc_cursor.specs.Reading.{under, Field, fields_at, optional_at, required_at, at_end}
+use Rattle.cmc_cursor.specs.Members.{under, Field, fields_at, optional_at, required_at, at_end}
 use Rattle.cmc_cursor.specs.Readers.{found, text_at, texts_at, flag_at, small_count_at}
 use Rattle.cmc_material.specs.declared.policy.Limits.{Limits}
 use Rattle.cmc_material.specs.declared.policy.Named.{Named}

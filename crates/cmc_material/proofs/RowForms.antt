@@ -17,7 +17,7 @@ use Rattle.cmc_objects.specs.declared.rows.KeyRow.{KeyRow}
 use Rattle.cmc_objects.specs.declared.rows.SignRow.{SignRow}
 use Rattle.cmc_objects.specs.Requests.{is_row_form, is_lifetime}
 use Rattle.cmc_setup.specs.Forms.{is_certificate, is_key_row_form, is_rows_form, is_entry_form, is_material_form, is_said}
-use Rattle.cmc_cursor.specs.Reading.{under, Field, fields_at, optional_at, required_at, at_end}
+use Rattle.cmc_cursor.specs.Members.{under, Field, fields_at, optional_at, required_at, at_end}
 use Rattle.cmc_cursor.specs.Readers.{text_at, count_at, bytes_at, name_in}
 use Rattle.cmc_cursor.specs.Readers.{passes, text_member}
 use Rattle.cmc_material.specs.Keys.{key_of_kind, split_slash}

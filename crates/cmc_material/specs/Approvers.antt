@@ -5,9 +5,9 @@ use Rattle.std.specs.Str.{bytes_eq}
 use Rattle.serde_json.specs.Data.{Data}
 use Rattle.cmc_policy_rules.specs.declared.policy.Policy.{Policy}
 use Rattle.cmc_objects.specs.declared.orders.Rules.{Rules}
-use Rattle.cmc_time.specs.DurationReading.{duration_seconds}
+use Rattle.cmc_time.specs.DurationTexts.{duration_seconds}
 use Rattle.cmc_x509_build.specs.Addresses.{address_at}
-use Rattle.cmc_cursor.specs.Reading.{Read, ◌>>=◌, under, Field, fields_at, optional_at, required_at, at_end}
+use Rattle.cmc_cursor.specs.Members.{Read, ◌>>=◌, under, Field, fields_at, optional_at, required_at, at_end}
 use Rattle.cmc_cursor.specs.Readers.{found, text_at, texts_at, flag_at, small_count_at}
 use Rattle.cmc_material.specs.Lists.{numbered_below, list_at, member_or, member_option}
 use Rattle.cmc_material.specs.declared.policy.Limits.{Limits}

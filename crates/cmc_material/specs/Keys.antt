@@ -6,7 +6,7 @@ use Rattle.serde_json.specs.Data.{Data}
 use Rattle.cmc_meta.specs.declared.key.Kind.{Kind}
 use Rattle.cmc_meta.specs.declared.key.Kind.TheVariants.{Certificate, CertificateRequest, Secret}
 use Rattle.cmc_meta.specs.declared.key.Key.{Key}
-use Rattle.cmc_cursor.specs.Reading.{Read, ◌>>=◌}
+use Rattle.cmc_cursor.specs.Members.{Read, ◌>>=◌}
 use Rattle.cmc_cursor.specs.Readers.{text_at, name_in}
 
 abbrev pub is_slash : ℕ → Bool

@@ -11,7 +11,7 @@ use Rattle.cmc_objects.specs.declared.rows.KeyRow.TheVariants.{Synthetic, Der}
 use Rattle.cmc_objects.specs.declared.rows.SignRow.{SignRow}
 use Rattle.cmc_objects.specs.declared.rows.SignRow.TheVariants.{Issue, Pending, Fail, Raw}
 use Rattle.cmc_objects.specs.Materials.{with_rows_of}
-use Rattle.cmc_cursor.specs.Reading.{Read, ◌>>=◌, under, Field, fields_at, optional_at, required_at, at_end}
+use Rattle.cmc_cursor.specs.Members.{Read, ◌>>=◌, under, Field, fields_at, optional_at, required_at, at_end}
 use Rattle.cmc_cursor.specs.Readers.{text_at, count_at, bytes_at}
 use Rattle.cmc_cursor.specs.Readers.{passes, text_member}
 use Rattle.cmc_material.specs.Keys.{key_of_kind}

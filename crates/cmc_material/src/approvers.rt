@@ -1,7 +1,7 @@
 // What a scenario says of its approver.
 ghost use Rattle.std.specs.Prelude.{◌≡◌, [], codes, IfOk};
 ghost use Rattle.serde_json.specs.View.{view};
-ghost use Rattle.cmc_cursor.specs.Reading.{Gives};
+ghost use Rattle.cmc_cursor.specs.Members.{Gives};
 ghost use Rattle.cmc_cursor.specs.Readers.{texts_at};
 ghost use Rattle.cmc_cursor.specs.Seen.{shown_option};
 ghost use Rattle.cmc_material.specs.Lists.{member_or};

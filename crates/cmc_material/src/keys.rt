@@ -1,7 +1,7 @@
 // Keys written as text.
 ghost use Rattle.std.specs.Prelude.{◌≡◌};
 ghost use Rattle.serde_json.specs.View.{view};
-ghost use Rattle.cmc_cursor.specs.Reading.{Gives};
+ghost use Rattle.cmc_cursor.specs.Members.{Gives};
 ghost use Rattle.cmc_material.specs.Keys.{split_slash, kind_in, key_of_kind, key_of_text, key_at};
 
 use cmc_cursor::{BadField, name_of};

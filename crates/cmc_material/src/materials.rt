@@ -1,7 +1,7 @@
 // What a scenario says of keys and issuers.
 ghost use Rattle.std.specs.Prelude.{◌≡◌, [], codes};
 ghost use Rattle.serde_json.specs.View.{view, members_view};
-ghost use Rattle.cmc_cursor.specs.Reading.{Gives, under};
+ghost use Rattle.cmc_cursor.specs.Members.{Gives, under};
 ghost use Rattle.cmc_cursor.specs.Seen.{shown_option};
 ghost use Rattle.cmc_material.specs.Lists.{member_or};
 ghost use Rattle.cmc_material.specs.MaterialRows.{certificate_key_at, certificate_rows_at, material_at, material_with, rows_at};

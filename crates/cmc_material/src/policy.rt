@@ -1,10 +1,10 @@
 // Approval policies.
 ghost use Rattle.std.specs.Prelude.{◌≡◌, [], codes, false, map, IfOk};
 ghost use Rattle.serde_json.specs.View.{view, items_view};
-ghost use Rattle.cmc_time.specs.DurationReading.{duration_seconds};
+ghost use Rattle.cmc_time.specs.DurationTexts.{duration_seconds};
 ghost use Rattle.cmc_x509_build.specs.Addresses.{octets_of_address};
 ghost use Rattle.cmc_setup.specs.Forms.{is_pattern_form};
-ghost use Rattle.cmc_cursor.specs.Reading.{Gives};
+ghost use Rattle.cmc_cursor.specs.Members.{Gives};
 ghost use Rattle.cmc_cursor.specs.Readers.{flag_at, found, text_at};
 ghost use Rattle.cmc_cursor.specs.Seen.{shown, shown_option};
 ghost use Rattle.cmc_material.specs.Lists.{items_from, member_option, member_or, numbered_below};

@@ -1,7 +1,7 @@
 // Rows for keys and for issuers.
 ghost use Rattle.std.specs.Prelude.{◌≡◌, [], codes, map, option_map};
 ghost use Rattle.serde_json.specs.View.{view, items_view};
-ghost use Rattle.cmc_cursor.specs.Reading.{Gives};
+ghost use Rattle.cmc_cursor.specs.Members.{Gives};
 ghost use Rattle.cmc_cursor.specs.Readers.{bytes_at, text_at};
 ghost use Rattle.cmc_cursor.specs.Seen.{shown, shown_option};
 ghost use Rattle.cmc_material.specs.Lists.{items_from, member_or, numbered_at};

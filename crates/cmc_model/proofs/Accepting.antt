@@ -14,7 +14,7 @@ use Rattle.cmc_model.specs.Stored.{updated, with_status}
 use Rattle.cmc_model.specs.Admission.{is_taken, refusing_rule}
 use Rattle.cmc_model.specs.Replies.{State, IsReply, IsServed, IsCreated, IsUpdated, IsRestated, IsDeleted, IsGot, IsChange, IsAdmitted, is_accepted, under_reply, settled}
 use Rattle.cmc_model.proofs.Settling.{refused, settled_served}
-use Rattle.cmc_model.specs.Accepting.{IsNamedVersion, IsOnVersion, IsFounded}
+use Rattle.cmc_model.specs.Acceptance.{IsNamedVersion, IsOnVersion, IsFounded}
 
 changed : (n : ℕ) (name : List ℕ) (old new : Object) (reply : Reply) → IsChange n name old new reply → is_accepted reply ≡ true → new ≢ old
 changed n name old new reply (inl same) ok = absurd (refused reply (Unchanged (version_of old)) refl ok same.1)

@@ -19,7 +19,7 @@ use Rattle.cmc_model.specs.Objects.{Objects, object_at}
 use Rattle.cmc_model.specs.Stored.{created, updated, with_status, generation_after, revised, restated}
 use Rattle.cmc_model.specs.Admission.{has_condition, is_unsettled, condition_eq, is_lost, loses, verdict_rules, refusing_rule}
 use Rattle.cmc_model.specs.Replies.{is_accepted, key_of_call, settled, stored}
-use Rattle.cmc_model.specs.Accepting.{IsFounded}
+use Rattle.cmc_model.specs.Acceptance.{IsFounded}
 use Rattle.cmc_model.specs.Histories.{Setting, moment, state, objects, accepted}
 use Rattle.cmc_model.specs.Writes.{writes}
 use Rattle.cmc_model.specs.Verdicts.{verdict_condition, states, HasOneVerdict, KeepsVerdict, KeepsVerdicts, IsAnswered, AreFinal}

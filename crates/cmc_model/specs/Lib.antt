@@ -8,5 +8,5 @@ pub mod Histories
 pub mod Writes
 pub mod Summaries
 pub mod Versions
-pub mod Accepting
+pub mod Acceptance
 pub mod Verdicts

@@ -23,7 +23,7 @@ use Rattle.cmc_rules.specs.Origins.{origins, origin_at}
 use Rattle.cmc_rules.specs.Passes.{open_pass}
 use Rattle.cmc_rules.specs.Runs.{IsRun}
 use Rattle.cmc_model.specs.Histories.{Setting}
-use Rattle.cmc_safety.specs.Acting.{MayAct}
+use Rattle.cmc_safety.specs.MayAct.{MayAct}
 use Rattle.cmc_safety.specs.Formed.{IsFormed}
 use Rattle.cmc_safety.proofs.Forms.{reply_seen}
 use Rattle.cmc_safety.proofs.MayAct.{may_act_pass}
@@ -34,7 +34,7 @@ use Rattle.cmc_moves.specs.declared.moves.Lack.TheVariants.{Settled}
 use Rattle.cmc_moves.specs.declared.moves.Move.TheVariants.{Next, Decide}
 use Rattle.cmc_moves.specs.declared.moves.Stepped.{Stepped}
 use Rattle.cmc_moves.specs.declared.moves.Stepped.TheVariants.{Done, Order as Tells, NotNow}
-use Rattle.cmc_moves.specs.Acting.{IsDoingBy, IsGoingOn, IsTaking, IsTaken, asked_in}
+use Rattle.cmc_moves.specs.PassActions.{IsDoingBy, IsGoingOn, IsTaking, IsTaken, asked_in}
 use Rattle.cmc_moves.specs.Answers.{AnswersDecided, AnswersDecide, Leaves, kept_of, next_answer, outdated}
 use Rattle.cmc_moves.specs.Decisions.{BegunPass, Decision, IsDecided, IsUndecided, SawSame, bare_desk, decides_alone, is_fresh_stage, is_undecided}
 use Rattle.cmc_moves.proofs.Sounds.{each_sound}

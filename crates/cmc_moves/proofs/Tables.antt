@@ -6,22 +6,22 @@ use Rattle.cmc_meta.specs.declared.key.Key.{Key}
 use Rattle.cmc_meta.specs.declared.key.Kind.{Kind}
 use Rattle.cmc_objects.specs.declared.role.Role.{Role}
 use Rattle.cmc_objects.specs.declared.orders.Order.{Order}
-use Rattle.cmc_pass.specs.Giving.{order_of}
+use Rattle.cmc_pass.specs.GivenValues.{order_of}
 use Rattle.cmc_pass.specs.declared.given.Given.{Given}
 use Rattle.cmc_rules.specs.declared.progress.OpenPass.{OpenPass}
 use Rattle.cmc_objects.specs.declared.entry.Entry.{Entry}
 use Rattle.cmc_model.specs.Histories.{Setting, moment, runs}
 use Rattle.cmc_model.specs.Writes.{writes, last_of_kind}
-use Rattle.cmc_objects.specs.Watching.{has_informer}
+use Rattle.cmc_objects.specs.Informers.{has_informer}
 use Rattle.cmc_rules.specs.Positions.{position, positions}
-use Rattle.cmc_rules.specs.Viewing.{views}
+use Rattle.cmc_rules.specs.Views.{views}
 use Rattle.cmc_rules.specs.Passes.{open_pass}
 use Rattle.cmc_rules.specs.Origins.{origins, origin_at}
 use Rattle.cmc_rules.specs.Memory.{past}
 use Rattle.cmc_rules.specs.Sameness.{IsSame}
 use Rattle.cmc_rules.specs.Legality.{IsOpen}
-use Rattle.cmc_rules.specs.Scripting.{scripted, step_at, held}
-use Rattle.cmc_rules.specs.Following.{IsReady}
+use Rattle.cmc_rules.specs.Scripts.{scripted, step_at, held}
+use Rattle.cmc_rules.specs.UserSteps.{IsReady}
 use Rattle.cmc_rules.specs.Sameness.{own_above}
 use Rattle.cmc_moves.specs.declared.moves.Lack.{Lack}
 use Rattle.cmc_moves.specs.declared.moves.Lack.TheVariants.{ScriptOver, ScriptWaits, Stopped, NoInformer, Held, Current, NotAWrite, NotQueued, InProcess, SameViews, OwnWrite, NoPass, Settled}

@@ -2,5 +2,5 @@ pub mod Decisions
 pub mod Quiet
 pub mod Answers
 pub mod Tables
-pub mod Acting
+pub mod PassActions
 pub mod Prospects

@@ -5,7 +5,7 @@ ghost use Rattle.cmc_next.specs.Questions.{IsQuestionOf};
 ghost use Rattle.cmc_pass.specs.Values.{IsValue};
 ghost use Rattle.cmc_rules.specs.Acts as acts;
 ghost use Rattle.cmc_rules.specs.NextRequests.{HasNextRevision};
-ghost use Rattle.cmc_safety.specs.Acting.{MayAct};
+ghost use Rattle.cmc_safety.specs.MayAct.{MayAct};
 ghost use Rattle.cmc_objects.specs.declared.role.Role.{Role as RoleValue};
 ghost use Rattle.cmc_moves.specs.Prospects.{IsProspect};
 ghost use Rattle.cmc_moves.specs.declared.acts.Prospect.TheVariants as prospects;

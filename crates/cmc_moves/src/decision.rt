@@ -2,7 +2,7 @@
 ghost use Rattle.std.specs.Prelude.{◌≡◌, ◌↔◌, IfOk, IsTrue, Some, true};
 ghost use Rattle.cmc_pass.specs.declared.pass.Desk.{Desk as DeskValue};
 ghost use Rattle.cmc_rules.specs.Acts as acts;
-ghost use Rattle.cmc_safety.specs.Acting.{MayAct};
+ghost use Rattle.cmc_safety.specs.MayAct.{MayAct};
 ghost use Rattle.cmc_moves.specs.Decisions as spec;
 ghost use Rattle.cmc_moves.specs.Decisions.{IsDecision, SawSame};
 
@@ -35,7 +35,7 @@ impl Drop for Begun {
 }
 
 impl Model for Begun {
-    ghost use Rattle.cmc_safety.specs.Acting.{MayAct};
+    ghost use Rattle.cmc_safety.specs.MayAct.{MayAct};
     ghost use Rattle.cmc_moves.specs.Decisions.{BegunPass, bare_desk};
 
     ghost Value = { BegunPass };

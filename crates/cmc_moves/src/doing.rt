@@ -6,9 +6,9 @@ ghost use Rattle.cmc_objects.specs.declared.call.Call.{Call as CallValue};
 ghost use Rattle.std.specs.declared.option.Option.{Option as OptionValue};
 ghost use Rattle.cmc_rules.specs.Acts.{act, call_after};
 ghost use Rattle.cmc_rules.specs.Memory as memory;
-ghost use Rattle.cmc_safety.specs.Acting.{MayAct};
-ghost use Rattle.cmc_moves.specs.Acting as spec;
-ghost use Rattle.cmc_moves.specs.Acting.{HasNext, HasOwnQuestion, HasSecret, HasStatus, IsDoingBy, asked_in};
+ghost use Rattle.cmc_safety.specs.MayAct.{MayAct};
+ghost use Rattle.cmc_moves.specs.PassActions as spec;
+ghost use Rattle.cmc_moves.specs.PassActions.{HasNext, HasOwnQuestion, HasSecret, HasStatus, IsDoingBy, asked_in};
 ghost use Rattle.cmc_moves.specs.Answers.{next_answer, outdated_at, value_entry};
 
 use crate::acts::{act_of, follow_of};

@@ -1,6 +1,6 @@
 //! Moves, and what a step answers.
 ghost use Rattle.std.specs.Prelude.{◌≡◌, IfOk};
-ghost use Rattle.cmc_pass.specs.Giving.{order_of};
+ghost use Rattle.cmc_pass.specs.GivenValues.{order_of};
 ghost use Rattle.cmc_moves.specs.Tables.{delivery_answer, begin_answer, script_answer, IsValueAnswer};
 ghost use Rattle.cmc_moves.specs.Answers as answers;
 

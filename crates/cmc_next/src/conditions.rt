@@ -2,7 +2,7 @@
 ghost use Rattle.std.specs.Prelude.{◌≡◌, ◌==◌};
 ghost use Rattle.cmc_meta.specs.ConditionLists.{condition_rank};
 ghost use Rattle.cmc_objects.specs.Requests as requests;
-ghost use Rattle.cmc_rules.specs.Triggering as triggering;
+ghost use Rattle.cmc_rules.specs.Trigger as triggering;
 
 use cmc_meta::{Condition, ConditionKind, Tri};
 use cmc_objects::{Certificate, CertificateRequest};

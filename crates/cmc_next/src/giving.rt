@@ -1,6 +1,6 @@
 //! The value of what is given back.
 ghost use Rattle.std.specs.Prelude.{◌≡◌, IfOk};
-ghost use Rattle.cmc_pass.specs.Giving.{value_of};
+ghost use Rattle.cmc_pass.specs.GivenValues.{value_of};
 
 use cmc_meta::Bytes;
 use cmc_pass::{Given, Value};

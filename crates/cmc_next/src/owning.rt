@@ -1,12 +1,12 @@
 //! The metadata of what controllers make for a Certificate.
 ghost use Rattle.std.specs.Prelude.{◌≡◌, ◌∷◌, [], IfOk};
-ghost use Rattle.cmc_rules.specs.Owning as owning;
+ghost use Rattle.cmc_rules.specs.Owners as owning;
 
 use cmc_meta::{Kind, ObjectMeta, OwnerRef, Owners, Pairs};
 use cmc_objects::Certificate;
 use std::alloc::{AllocError, Global};
 
-#[tactic(auto, unfolding(cmc_rules::specs::Owning::owner_of))]
+#[tactic(auto, unfolding(cmc_rules::specs::Owners::owner_of))]
 fn owner_of(certificate: &Certificate) -> Result<OwnerRef, AllocError>
     ensures { IfOk result (λ o. o ≡ owning.owner_of certificate.now) }
 {
@@ -29,7 +29,7 @@ fn owners(alloc: Global, certificate: &Certificate) -> Result<Owners, AllocError
 /// Metadata of a new object in the Certificate's namespace, with these labels and annotations. The Certificate alone
 /// owns it, as its controller, and its name is the Certificate's: with a dash after it, it is the prefix of the name
 /// that the store generates (Kubernetes API conventions, `generateName`).
-#[tactic(auto, unfolding(cmc_rules::specs::Owning::owned_meta))]
+#[tactic(auto, unfolding(cmc_rules::specs::Owners::owned_meta))]
 pub fn owned_meta(
     alloc: Global,
     certificate: &Certificate,

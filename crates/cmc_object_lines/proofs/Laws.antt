@@ -21,7 +21,7 @@ use Rattle.cmc_print.specs.Trees.{natural}
 use Rattle.cmc_print.specs.Puts.{strings, base64_text, map_tree}
 use Rattle.cmc_print.specs.Words.{kind_name, condition_name, tri_name, algorithm_name, encoding_name, rotation_name, uid_text}
 use Rattle.cmc_print.specs.Printed.{moment_tree, duration_tree, owner_tree, owners_tree, meta_members, meta_tree, condition_tree, conditions_tree, issuer_tree, key_members, spec_tree, put_references, put_names, put_terms, status_members, put_moments, request_tree, request_status_members, object_tree, head_members}
-use Rattle.cmc_writer.specs.Adding.{Row, with_value, with_rows}
+use Rattle.cmc_writer.specs.Additions.{Row, with_value, with_rows}
 use Rattle.cmc_writer.specs.Rows.{built_row, built, list_row, object_row}
 use Rattle.cmc_writer.proofs.Placed.{IsBuilt, is_none, is_put}
 use Rattle.cmc_writer.proofs.Written.{object_written}

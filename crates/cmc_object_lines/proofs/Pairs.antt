@@ -13,7 +13,7 @@ use Rattle.std.specs.List.Sorted.{IsStrictlySortedBy}
 use Rattle.json.specs.Token.{Token, begin_object, end_object}
 use Rattle.serde_json.specs.Data.{Data, object, no_members, member, put}
 use Rattle.cmc_print.specs.Puts.{put_all, map_tree}
-use Rattle.cmc_writer.specs.Adding.{with_value, with_rows}
+use Rattle.cmc_writer.specs.Additions.{with_value, with_rows}
 use Rattle.cmc_writer.specs.Rows.{built}
 use Rattle.cmc_writer.proofs.Written.{object_written}
 use Rattle.cmc_object_lines.specs.ObjectRows.{pair_rows}

@@ -3,7 +3,7 @@ use Rattle.std.proofs.Common.{◌≡◌, ℕ, List, [], ◌∷◌, Bool, true, f
 use Rattle.std.specs.declared.option.Option.{Option}
 use Rattle.serde_json.specs.Data.{Data, boolean, object, Members, no_members, member}
 use Rattle.cmc_print.specs.Puts.{put_option, put_list, put_true, put_object}
-use Rattle.cmc_writer.specs.Adding.{Row}
+use Rattle.cmc_writer.specs.Additions.{Row}
 use Rattle.cmc_writer.specs.Rows.{list_row, true_row, object_row}
 use Rattle.cmc_writer.proofs.Placed.{placed, has_place, IsBuilt, is_put}
 

@@ -17,7 +17,7 @@ use Rattle.cmc_print.specs.Trees.{natural}
 use Rattle.cmc_print.specs.Puts.{strings, base64_text, map_tree}
 use Rattle.cmc_print.specs.Words.{kind_name, condition_name, tri_name, algorithm_name, encoding_name, rotation_name, uid_text}
 use Rattle.cmc_print.specs.Printed.{moment_tree, duration_tree, owners_tree, meta_tree, conditions_tree, issuer_tree, key_members, spec_tree, status_members, request_tree, request_status_members}
-use Rattle.cmc_writer.specs.Adding.{Row}
+use Rattle.cmc_writer.specs.Additions.{Row}
 use Rattle.cmc_writer.specs.Rows.{list_row, true_row, object_row}
 
 abbrev pub owner_rows : OwnerRef → List Row

@@ -4,7 +4,7 @@ ghost use Rattle.serde_json.specs.Data.{string, object};
 ghost use Rattle.cmc_objects.specs.declared.object.Object.TheVariants.{Cert};
 ghost use Rattle.cmc_print.specs.Printed.{owner_tree, owners_tree, meta_tree, condition_tree, conditions_tree, issuer_tree, key_members, spec_tree, status_members, object_tree};
 ghost use Rattle.cmc_print.specs.Words.{algorithm_name, encoding_name, rotation_name};
-ghost use Rattle.cmc_writer.specs.Adding.{with_value, with_values, with_row, with_rows};
+ghost use Rattle.cmc_writer.specs.Additions.{with_value, with_values, with_row, with_rows};
 ghost use Rattle.cmc_writer.specs.Rows.{list_row, object_row};
 ghost use Rattle.cmc_object_lines.specs.ObjectRows.{meta_rows, condition_rows, first_rows, middle_rows, last_rows, attempt_rows, moment_rows, cert_rows, has_key_terms, has_moments, has_status};
 ghost use Rattle.std.specs.Prelude.{option_map};
@@ -54,7 +54,7 @@ fn write_owners(printer: &mut Printer, alloc: Global, owners: &[OwnerRef]) -> Re
     printer.end_array()
 }
 
-#[tactic(auto, unfolding(cmc_writer::specs::Adding::with_row))]
+#[tactic(auto, unfolding(cmc_writer::specs::Additions::with_row))]
 fn owners_row(printer: &mut Printer, alloc: Global, owners: &[OwnerRef]) -> Result<(), AllocError>
     ensures { OnOk result (printer.new ≡ with_row printer.old (codes "ownerReferences") (list_row owners_tree owners.now)) }
 {
@@ -103,7 +103,7 @@ pub fn issuer_row(printer: &mut Printer, issuer: &IssuerRef) -> Result<(), Alloc
     write_issuer(printer, issuer)
 }
 
-#[tactic(auto, unfolding(cmc_writer::specs::Adding::with_row))]
+#[tactic(auto, unfolding(cmc_writer::specs::Additions::with_row))]
 fn algorithm_row(printer: &mut Printer, algorithm: Option<Algorithm>) -> Result<(), AllocError>
     ensures { OnOk result (printer.new ≡ with_row printer.old (codes "algorithm") (option_map (λ a. string (algorithm_name a)) algorithm)) }
 {
@@ -113,7 +113,7 @@ fn algorithm_row(printer: &mut Printer, algorithm: Option<Algorithm>) -> Result<
     }
 }
 
-#[tactic(auto, unfolding(cmc_writer::specs::Adding::with_row))]
+#[tactic(auto, unfolding(cmc_writer::specs::Additions::with_row))]
 fn encoding_row(printer: &mut Printer, encoding: Option<Encoding>) -> Result<(), AllocError>
     ensures { OnOk result (printer.new ≡ with_row printer.old (codes "encoding") (option_map (λ e. string (encoding_name e)) encoding)) }
 {
@@ -123,7 +123,7 @@ fn encoding_row(printer: &mut Printer, encoding: Option<Encoding>) -> Result<(),
     }
 }
 
-#[tactic(auto, unfolding(cmc_writer::specs::Adding::with_row))]
+#[tactic(auto, unfolding(cmc_writer::specs::Additions::with_row))]
 fn rotation_row(printer: &mut Printer, rotation: Option<Rotation>) -> Result<(), AllocError>
     ensures { OnOk result (printer.new ≡ with_row printer.old (codes "rotationPolicy") (option_map (λ r. string (rotation_name r)) rotation)) }
 {
@@ -152,7 +152,7 @@ fn has_terms(key: &KeySpec) -> bool
         || (key.encoding.is_some() || (key.rotation.is_some() || key.size.is_some()))
 }
 
-#[tactic(auto, using(crate::proofs::Laws::key_row), unfolding(cmc_writer::specs::Adding::with_row))]
+#[tactic(auto, using(crate::proofs::Laws::key_row), unfolding(cmc_writer::specs::Additions::with_row))]
 fn key_row(printer: &mut Printer, key: &KeySpec) -> Result<(), AllocError>
     ensures { OnOk result (printer.new ≡ with_row printer.old (codes "privateKey") (object_row (key_members key.now))) }
 {
@@ -256,7 +256,7 @@ fn write_conditions(
     printer.end_array()
 }
 
-#[tactic(auto, unfolding(cmc_writer::specs::Adding::with_row))]
+#[tactic(auto, unfolding(cmc_writer::specs::Additions::with_row))]
 pub fn conditions_row(
     printer: &mut Printer,
     alloc: Global,
@@ -271,7 +271,7 @@ pub fn conditions_row(
     write_conditions(printer, alloc, conditions)
 }
 
-#[tactic(auto, unfolding(cmc_writer::specs::Adding::with_row))]
+#[tactic(auto, unfolding(cmc_writer::specs::Additions::with_row))]
 fn next_key_row(printer: &mut Printer, name: &Option<Name>) -> Result<(), AllocError>
     ensures { OnOk result (printer.new ≡ with_row printer.old (codes "nextPrivateKeySecretName") (option_map string name.now)) }
 {
@@ -324,7 +324,7 @@ fn has_status(status: &CertStatus) -> bool
             || (has_moments(status) || (status.next_key.is_some() || status.revision.is_some())))
 }
 
-#[tactic(auto, using(crate::proofs::Laws::status_row), unfolding(cmc_writer::specs::Adding::with_row))]
+#[tactic(auto, using(crate::proofs::Laws::status_row), unfolding(cmc_writer::specs::Additions::with_row))]
 fn status_row(printer: &mut Printer, alloc: Global, status: &CertStatus) -> Result<(), AllocError>
     ensures { OnOk result (printer.new ≡ with_row printer.old (codes "status") (object_row (status_members status.now))) }
 {
@@ -335,7 +335,7 @@ fn status_row(printer: &mut Printer, alloc: Global, status: &CertStatus) -> Resu
     write_status(printer, alloc, status)
 }
 
-#[tactic(auto, unfolding(cmc_writer::specs::Adding::with_row))]
+#[tactic(auto, unfolding(cmc_writer::specs::Additions::with_row))]
 pub fn meta_row(printer: &mut Printer, alloc: Global, meta: &ObjectMeta) -> Result<(), AllocError>
     ensures { OnOk result (printer.new ≡ with_row printer.old (codes "metadata") (Some (meta_tree meta.now))) }
 {
@@ -343,7 +343,7 @@ pub fn meta_row(printer: &mut Printer, alloc: Global, meta: &ObjectMeta) -> Resu
     write_meta(printer, alloc, meta)
 }
 
-#[tactic(auto, unfolding(cmc_writer::specs::Adding::with_row))]
+#[tactic(auto, unfolding(cmc_writer::specs::Additions::with_row))]
 fn spec_row(printer: &mut Printer, alloc: Global, spec: &CertSpec) -> Result<(), AllocError>
     ensures { OnOk result (printer.new ≡ with_row printer.old (codes "spec") (Some (spec_tree spec.now))) }
 {

@@ -3,7 +3,7 @@ ghost use Rattle.std.specs.Prelude.{◌≡◌, codes, Some, OnOk};
 ghost use Rattle.serde_json.specs.Data.{object};
 ghost use Rattle.cmc_objects.specs.declared.object.Object.TheVariants.{Request, Secret as SecretVariant};
 ghost use Rattle.cmc_print.specs.Printed.{request_tree, request_status_members, object_tree};
-ghost use Rattle.cmc_writer.specs.Adding.{with_value, with_row, with_rows};
+ghost use Rattle.cmc_writer.specs.Additions.{with_value, with_row, with_rows};
 ghost use Rattle.cmc_writer.specs.Rows.{object_row};
 ghost use Rattle.cmc_object_lines.specs.ObjectRows.{request_spec_rows, request_status_rows, has_request_status, request_rows, secret_rows};
 
@@ -88,7 +88,7 @@ fn has_request_status(status: &RequestStatus) -> bool
             || (!status.conditions.as_slice().is_empty() || status.failure.is_some()))
 }
 
-#[tactic(auto, using(crate::proofs::Laws::request_status_row), unfolding(cmc_writer::specs::Adding::with_row))]
+#[tactic(auto, using(crate::proofs::Laws::request_status_row), unfolding(cmc_writer::specs::Additions::with_row))]
 fn request_status_row(
     printer: &mut Printer,
     alloc: Global,

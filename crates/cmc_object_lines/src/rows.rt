@@ -9,7 +9,7 @@ ghost use Rattle.serde_json.specs.Data.{string};
 ghost use Rattle.cmc_print.specs.Printed.{moment_tree, duration_tree};
 ghost use Rattle.cmc_print.specs.Puts.{strings, base64_text, map_tree};
 ghost use Rattle.cmc_print.specs.Trees.{natural};
-ghost use Rattle.cmc_writer.specs.Adding.{with_value, with_values, with_row, with_rows};
+ghost use Rattle.cmc_writer.specs.Additions.{with_value, with_values, with_row, with_rows};
 ghost use Rattle.cmc_writer.specs.Rows.{list_row, true_row};
 
 use base64::engine::general_purpose::STANDARD;
@@ -21,7 +21,7 @@ use std::alloc::{AllocError, Global};
 use std::collections::BTreeMap;
 
 /// A text, unless it is empty.
-#[tactic(auto, unfolding(cmc_writer::specs::Adding::with_row))]
+#[tactic(auto, unfolding(cmc_writer::specs::Additions::with_row))]
 pub fn some_text_row(printer: &mut Printer, name: &str, text: &str) -> Result<(), AllocError>
     ensures { OnOk result (printer.new ≡ with_row printer.old name.now (list_row string text.now)) }
 {
@@ -32,7 +32,7 @@ pub fn some_text_row(printer: &mut Printer, name: &str, text: &str) -> Result<()
 }
 
 /// A text, where there is one.
-#[tactic(auto, unfolding(cmc_writer::specs::Adding::with_row))]
+#[tactic(auto, unfolding(cmc_writer::specs::Additions::with_row))]
 pub fn text_option_row(
     printer: &mut Printer,
     name: &str,
@@ -47,7 +47,7 @@ pub fn text_option_row(
 }
 
 /// A number, where there is one.
-#[tactic(auto, unfolding(cmc_writer::specs::Adding::with_row))]
+#[tactic(auto, unfolding(cmc_writer::specs::Additions::with_row))]
 pub fn count_option_row(
     printer: &mut Printer,
     name: &str,
@@ -62,7 +62,7 @@ pub fn count_option_row(
 }
 
 /// The same of a smaller number.
-#[tactic(auto, unfolding(cmc_writer::specs::Adding::with_row))]
+#[tactic(auto, unfolding(cmc_writer::specs::Additions::with_row))]
 pub fn small_count_option_row(
     printer: &mut Printer,
     name: &str,
@@ -77,7 +77,7 @@ pub fn small_count_option_row(
 }
 
 /// `true`, where it is true.
-#[tactic(auto, unfolding(cmc_writer::specs::Adding::with_row))]
+#[tactic(auto, unfolding(cmc_writer::specs::Additions::with_row))]
 pub fn true_row(printer: &mut Printer, name: &str, flag: bool) -> Result<(), AllocError>
     ensures { OnOk result (printer.new ≡ with_row printer.old name.now (true_row flag)) }
 {
@@ -88,7 +88,7 @@ pub fn true_row(printer: &mut Printer, name: &str, flag: bool) -> Result<(), All
 }
 
 /// A duration, where there is one.
-#[tactic(auto, unfolding(cmc_writer::specs::Adding::with_row))]
+#[tactic(auto, unfolding(cmc_writer::specs::Additions::with_row))]
 pub fn duration_row(
     printer: &mut Printer,
     alloc: Global,
@@ -107,7 +107,7 @@ pub fn duration_row(
 }
 
 /// A moment.
-#[tactic(auto, unfolding(cmc_writer::specs::Adding::with_row))]
+#[tactic(auto, unfolding(cmc_writer::specs::Additions::with_row))]
 pub fn moment_row(
     printer: &mut Printer,
     alloc: Global,
@@ -121,7 +121,7 @@ pub fn moment_row(
 }
 
 /// A moment, where there is one.
-#[tactic(auto, unfolding(cmc_writer::specs::Adding::with_row))]
+#[tactic(auto, unfolding(cmc_writer::specs::Additions::with_row))]
 pub fn moment_option_row(
     printer: &mut Printer,
     alloc: Global,
@@ -155,7 +155,7 @@ fn write_texts(printer: &mut Printer, texts: &[Text]) -> Result<(), AllocError>
 }
 
 /// A list of texts, unless it is empty.
-#[tactic(auto, unfolding(cmc_writer::specs::Adding::with_row))]
+#[tactic(auto, unfolding(cmc_writer::specs::Additions::with_row))]
 pub fn texts_row(printer: &mut Printer, name: &str, texts: &[Text]) -> Result<(), AllocError>
     ensures { OnOk result (printer.new ≡ with_row printer.old name.now (list_row strings texts.now)) }
 {
@@ -186,7 +186,7 @@ fn write_pairs(printer: &mut Printer, pairs: &BTreeMap<Text, Text>) -> Result<()
 }
 
 /// A map of texts, unless it is empty.
-#[tactic(auto, unfolding(cmc_writer::specs::Adding::with_row))]
+#[tactic(auto, unfolding(cmc_writer::specs::Additions::with_row))]
 pub fn pairs_row(
     printer: &mut Printer,
     name: &str,
@@ -202,7 +202,7 @@ pub fn pairs_row(
 }
 
 /// Bytes as standard base64.
-#[tactic(auto, unfolding(cmc_writer::specs::Adding::with_row))]
+#[tactic(auto, unfolding(cmc_writer::specs::Additions::with_row))]
 pub fn bytes_row(
     printer: &mut Printer,
     alloc: Global,
@@ -216,7 +216,7 @@ pub fn bytes_row(
 }
 
 /// The same, unless there are none.
-#[tactic(auto, unfolding(cmc_writer::specs::Adding::with_row))]
+#[tactic(auto, unfolding(cmc_writer::specs::Additions::with_row))]
 pub fn some_bytes_row(
     printer: &mut Printer,
     alloc: Global,
@@ -259,7 +259,7 @@ fn write_parts(
 }
 
 /// A map of bytes as standard base64, unless it is empty.
-#[tactic(auto, unfolding(cmc_writer::specs::Adding::with_row))]
+#[tactic(auto, unfolding(cmc_writer::specs::Additions::with_row))]
 pub fn parts_row(
     printer: &mut Printer,
     alloc: Global,

@@ -6,4 +6,4 @@ pub mod Roles
 pub mod Kept
 pub mod Materials
 pub mod Requests
-pub mod Watching
+pub mod Informers

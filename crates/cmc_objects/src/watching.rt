@@ -1,6 +1,6 @@
 //! Which objects each role looks at, and so which kinds it watches.
 ghost use Rattle.std.specs.Prelude.{◌≡◌};
-ghost use Rattle.cmc_objects.specs.Watching as tables;
+ghost use Rattle.cmc_objects.specs.Informers as tables;
 
 use crate::role::Role;
 use cmc_meta::Kind;

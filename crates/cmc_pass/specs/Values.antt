@@ -4,7 +4,7 @@ use Rattle.cmc_objects.specs.declared.orders.Order.{Order}
 use Rattle.cmc_objects.specs.declared.orders.Order.TheVariants.{Key, Csr, Sign, Judge}
 use Rattle.cmc_keys.specs.Values.{IsKeyValue, IsCsrValue}
 use Rattle.cmc_answers.specs.Answers.{IsAnswer}
-use Rattle.cmc_answers.specs.Judging.{denial_of}
+use Rattle.cmc_answers.specs.Denials.{denial_of}
 use Rattle.cmc_pass.specs.declared.value.Value.{Value}
 use Rattle.cmc_pass.specs.declared.value.Value.TheVariants.{Made, Signed, Answered, Judged}
 

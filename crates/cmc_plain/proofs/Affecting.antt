@@ -14,9 +14,9 @@ use Rattle.cmc_model.specs.Objects.{Objects}
 use Rattle.cmc_model.specs.Histories.{Setting, accepted, role_eq}
 use Rattle.cmc_model.specs.Writes.{writes, contents, oldest, of_kind}
 use Rattle.cmc_model.proofs.Writes.{writes_count}
-use Rattle.cmc_objects.specs.Watching.{has_informer, kind_of_work}
+use Rattle.cmc_objects.specs.Informers.{has_informer, kind_of_work}
 use Rattle.cmc_rules.specs.Positions.{position, position_of, positions}
-use Rattle.cmc_rules.specs.Viewing.{Caches, views, views_in}
+use Rattle.cmc_rules.specs.Views.{Caches, views, views_in}
 use Rattle.cmc_rules.specs.Legality.{IsLegal}
 use Rattle.cmc_rules.proofs.Positions.{write_at-low}
 use Rattle.cmc_caches.specs.Affected.{is_among, AreNamed, HaveOwnUids}

@@ -15,10 +15,10 @@ use Rattle.cmc_model.specs.Objects.{object_at}
 use Rattle.cmc_model.specs.Histories.{Setting, objects}
 use Rattle.cmc_model.specs.Summaries.{is_waiting}
 use Rattle.cmc_rules.specs.Dates.{HasDatedFailure, IsDatedCertificate}
-use Rattle.cmc_rules.specs.Viewing.{Caches, certificate_in, views_of, views_in, present_views}
+use Rattle.cmc_rules.specs.Views.{Caches, certificate_in, views_of, views_in, present_views}
 use Rattle.cmc_rules.specs.Legality.{IsLegal}
 use Rattle.cmc_rules.proofs.Versions.{stands_is_version}
-use Rattle.cmc_safety.specs.Standing.{KeepsInvariants}
+use Rattle.cmc_safety.specs.Invariants.{KeepsInvariants}
 use Rattle.cmc_world.proofs.Newest.{views_of_all}
 use Rattle.cmc_plain.specs.Waits.{waits_among, IsAllThatExists}
 

@@ -5,7 +5,7 @@ use Rattle.cmc_objects.specs.declared.entry.Entry.{Entry}
 use Rattle.cmc_objects.specs.declared.orders.Order.{Order}
 use Rattle.cmc_objects.specs.declared.orders.Order.TheVariants.{Key}
 use Rattle.cmc_objects.specs.declared.role.Role.{Role}
-use Rattle.cmc_pass.specs.Giving.{order_of}
+use Rattle.cmc_pass.specs.GivenValues.{order_of}
 use Rattle.cmc_pass.specs.declared.given.Given.{Given}
 use Rattle.cmc_pass.specs.declared.pass.Views.{Views}
 use Rattle.cmc_rules.specs.declared.progress.OpenPass.{OpenPass}
@@ -19,7 +19,7 @@ use Rattle.cmc_safety.proofs.Course.{HasCome, HasComeTo, has_come, of_open}
 use Rattle.cmc_moves.specs.Answers.{kept_at}
 use Rattle.cmc_moves.specs.declared.moves.Move.TheVariants.{Give}
 use Rattle.cmc_moves.proofs.Sounds.{each_sound}
-use Rattle.cmc_plain.specs.Driving.{CanBeMade, CanBeKept, IsNextWith}
+use Rattle.cmc_plain.specs.Turns.{CanBeMade, CanBeKept, IsNextWith}
 
 -- ---- keys that are asked for can be made
 

@@ -15,14 +15,14 @@ use Rattle.cmc_rules.specs.Desks.{desk}
 use Rattle.cmc_model.specs.Histories.{Setting, moment}
 use Rattle.cmc_rules.specs.Origins.{begun}
 use Rattle.cmc_rules.specs.Passes.{new_pass, open_pass}
-use Rattle.cmc_rules.specs.Viewing.{views}
+use Rattle.cmc_rules.specs.Views.{views}
 use Rattle.cmc_moves.specs.Answers.{Leaves, beginning, is_done}
 use Rattle.cmc_moves.specs.Prospects.{IsFirstAct, IsProspect}
 use Rattle.cmc_moves.specs.declared.moves.Move.TheVariants as moves
 use Rattle.cmc_moves.specs.declared.moves.Stepped.{Stepped}
 use Rattle.cmc_moves.proofs.Tables.{the_done}
 use Rattle.cmc_world.specs.Kept.{Seen, setting_of}
-use Rattle.cmc_plain.specs.Keeping.{DoesOn}
+use Rattle.cmc_plain.specs.KeptLooks.{DoesOn}
 use Rattle.cmc_plain.specs.Openings.{LeavesBoth, LeavesNext}
 use Rattle.cmc_plain.specs.Searches.{prospect}
 

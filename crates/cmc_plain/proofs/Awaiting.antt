@@ -5,9 +5,9 @@ use Rattle.std.specs.Prelude.{◌↔◌, IsTrue, slice_get}
 use Rattle.cmc_objects.specs.declared.entry.Entry.{Entry}
 use Rattle.cmc_objects.specs.declared.entry.Step.{Step}
 use Rattle.cmc_model.specs.Histories.{Setting}
-use Rattle.cmc_rules.specs.Following.{IsReady}
-use Rattle.cmc_rules.specs.Resting.{IsAtRest}
-use Rattle.cmc_rules.specs.Scripting.{scripted, step_at}
+use Rattle.cmc_rules.specs.UserSteps.{IsReady}
+use Rattle.cmc_rules.specs.Rest.{IsAtRest}
+use Rattle.cmc_rules.specs.Scripts.{scripted, step_at}
 use Rattle.cmc_plain.specs.declared.scripts.Awaits.{Awaits}
 use Rattle.cmc_plain.specs.declared.scripts.Awaits.TheVariants.{Rest}
 use Rattle.cmc_plain.specs.Plain.{IsStepReady, HasNoScript}

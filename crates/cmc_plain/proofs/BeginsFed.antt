@@ -8,7 +8,7 @@ use Rattle.cmc_objects.specs.declared.entry.Entry.{Entry}
 use Rattle.cmc_objects.specs.declared.entry.Positions.{Positions}
 use Rattle.cmc_objects.specs.declared.orders.Rules.{Rules}
 use Rattle.cmc_objects.specs.declared.role.Role.{Role}
-use Rattle.cmc_objects.specs.Watching.{kind_of_work}
+use Rattle.cmc_objects.specs.Informers.{kind_of_work}
 use Rattle.cmc_pass.specs.declared.pass.Views.{Views}
 use Rattle.cmc_queue.specs.declared.row.Found.{Found}
 use Rattle.cmc_queue.specs.declared.row.Found.TheVariants as found
@@ -23,19 +23,19 @@ use Rattle.cmc_rules.specs.declared.progress.Past.{Past}
 use Rattle.cmc_rules.specs.Memory.{past}
 use Rattle.cmc_rules.specs.Passes.{IsWorking}
 use Rattle.cmc_rules.specs.Positions.{positions}
-use Rattle.cmc_rules.specs.Resting.{IsIdle}
+use Rattle.cmc_rules.specs.Rest.{IsIdle}
 use Rattle.cmc_rules.specs.Runs.{IsRun}
 use Rattle.cmc_rules.specs.Sameness.{IsDue}
 use Rattle.cmc_rules.specs.Sound.{IsDueMoment}
-use Rattle.cmc_rules.specs.Viewing.{views}
+use Rattle.cmc_rules.specs.Views.{views}
 use Rattle.cmc_moves.specs.Answers.{is_done, AnswersBegin, IsQueued, Leaves}
 use Rattle.cmc_moves.specs.declared.moves.Move.TheVariants as moves
 use Rattle.cmc_moves.specs.declared.moves.Stepped.{Stepped}
 use Rattle.cmc_moves.specs.declared.moves.Stepped.TheVariants as answers
 use Rattle.cmc_moves.proofs.Tables.{may_begin, the_done}
-use Rattle.cmc_waking.specs.Feeding.{row_begun, timed_too}
+use Rattle.cmc_waking.specs.Feeds.{row_begun, timed_too}
 use Rattle.cmc_waking.specs.Queues.{queue_in, row_at, KeepsOthers}
-use Rattle.cmc_waking.specs.Waking.{IsRowKept, IsTended, IsTimed}
+use Rattle.cmc_waking.specs.WakeUps.{IsRowKept, IsTended, IsTimed}
 use Rattle.cmc_world.specs.Kept.{Seen, setting_of, on}
 use Rattle.cmc_plain.specs.DueMoments.{IsFirstAfter}
 use Rattle.cmc_plain.specs.Fed.{IsFed}

@@ -4,8 +4,8 @@ use Rattle.std.specs.Prelude.{◌↔◌, IsTrue, MatchBool, if◌then◌else◌}
 use Rattle.cmc_objects.specs.declared.role.Role.{Role}
 use Rattle.cmc_objects.specs.declared.entry.Entry.{Entry}
 use Rattle.cmc_model.specs.Histories.{Setting}
-use Rattle.cmc_rules.specs.Following.{owed}
-use Rattle.cmc_rules.specs.Resting.{IsAtRest}
+use Rattle.cmc_rules.specs.UserSteps.{owed}
+use Rattle.cmc_rules.specs.Rest.{IsAtRest}
 use Rattle.cmc_rules.specs.Runs.{IsRun}
 use Rattle.cmc_moves.specs.declared.moves.Move.TheVariants.{Script}
 use Rattle.cmc_plain.specs.Plain.{IsStepReady, HasNoScript, HasNoPass, HasNoDelivery, IsPlainMove}

@@ -4,7 +4,7 @@ use Rattle.std.proofs.lemmas.List.{take_more, take_all, length_push}
 use Rattle.cmc_objects.specs.declared.entry.Entry.{Entry}
 use Rattle.cmc_model.specs.Histories.{Setting}
 use Rattle.cmc_moves.specs.declared.moves.Move.{Move}
-use Rattle.cmc_world.specs.Leading.{IsStep, Lead, LeadsSome}
+use Rattle.cmc_world.specs.Leads.{IsStep, Lead, LeadsSome}
 use Rattle.cmc_world.proofs.Leading.{led_on}
 
 -- the next of the moves is made

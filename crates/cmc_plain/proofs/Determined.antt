@@ -5,15 +5,15 @@ use Rattle.cmc_objects.specs.declared.entry.Entry.TheVariants.{Script}
 use Rattle.cmc_rules.specs.declared.effect.Effect.{Effect}
 use Rattle.cmc_model.specs.Histories.{Setting}
 use Rattle.cmc_rules.specs.Causes.{IsCaused}
-use Rattle.cmc_rules.specs.Following.{Follows}
+use Rattle.cmc_rules.specs.UserSteps.{Follows}
 use Rattle.cmc_rules.specs.Legality.{IsLegal}
-use Rattle.cmc_rules.specs.Scripting.{scripted}
+use Rattle.cmc_rules.specs.Scripts.{scripted}
 use Rattle.cmc_rules.specs.Runs.{IsRun, IsFinished}
 use Rattle.cmc_moves.specs.declared.moves.Move.{Move}
 use Rattle.cmc_moves.specs.declared.moves.Move.TheVariants as moves
 use Rattle.cmc_moves.specs.Answers.{entries_of, GrowsBy, next_effect}
 use Rattle.cmc_world.proofs.Leading.{extends_by, extends_on}
-use Rattle.cmc_world.specs.Leading.{Extends}
+use Rattle.cmc_world.specs.Leads.{Extends}
 use Rattle.cmc_plain.specs.Histories.{entries_for, IsFull, IsEnd, GrowsPlainly, HasNoFree, IsPlainStep, LeadsPlainly, IsPlain}
 use Rattle.cmc_plain.proofs.OneMove.{one_move}
 use Rattle.cmc_plain.proofs.OneGrowth.{one_growth}

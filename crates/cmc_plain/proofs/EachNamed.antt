@@ -14,9 +14,9 @@ use Rattle.cmc_model.specs.Objects.{Objects, object_at}
 use Rattle.cmc_model.specs.Histories.{Setting, moment, objects}
 use Rattle.cmc_model.specs.Writes.{writes, is_known}
 use Rattle.cmc_model.proofs.Writes.{writes_leave}
-use Rattle.cmc_rules.specs.Resting.{IsAtRest}
+use Rattle.cmc_rules.specs.Rest.{IsAtRest}
 use Rattle.cmc_rules.specs.Runs.{IsRun}
-use Rattle.cmc_rules.specs.Viewing.{present_views}
+use Rattle.cmc_rules.specs.Views.{present_views}
 use Rattle.cmc_plain.specs.Waits.{is_stopped, wait_in}
 use Rattle.cmc_plain.specs.Named.{NamesEachWait}
 use Rattle.cmc_plain.proofs.EachWait.{IsStill, waits_where_still}

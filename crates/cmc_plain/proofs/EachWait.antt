@@ -24,20 +24,20 @@ use Rattle.cmc_model.specs.Histories.{Setting, moment, objects}
 use Rattle.cmc_rules.specs.Acts.{act}
 use Rattle.cmc_rules.specs.Causes.{IsCaused}
 use Rattle.cmc_rules.specs.Desks.{desk}
-use Rattle.cmc_rules.specs.Following.{Follows}
+use Rattle.cmc_rules.specs.UserSteps.{Follows}
 use Rattle.cmc_rules.specs.Legality.{IsLegal}
-use Rattle.cmc_rules.specs.Resting.{IsIdle}
-use Rattle.cmc_rules.specs.Sighting.{IsAmong}
-use Rattle.cmc_rules.specs.Viewing.{Caches, certificate_in, request_in, certificate_at, request_at, target_at, next_of, requests_of, owned_in, is_owned, of_certificate, views_of, views_in, present_views}
-use Rattle.cmc_rules.specs.Triggering.{trigger, for_option, for_certificate, is_issuing, is_backing_off}
-use Rattle.cmc_rules.specs.KeyManaging.{key_manager, keys_of, while_issuing, while_idle}
+use Rattle.cmc_rules.specs.Rest.{IsIdle}
+use Rattle.cmc_rules.specs.SeenObjects.{IsAmong}
+use Rattle.cmc_rules.specs.Views.{Caches, certificate_in, request_in, certificate_at, request_at, target_at, next_of, requests_of, owned_in, is_owned, of_certificate, views_of, views_in, present_views}
+use Rattle.cmc_rules.specs.Trigger.{trigger, for_option, for_certificate, is_issuing, is_backing_off}
+use Rattle.cmc_rules.specs.KeyManager.{key_manager, keys_of, while_issuing, while_idle}
 use Rattle.cmc_rules.specs.NextKeys.{named_key}
-use Rattle.cmc_rules.specs.RequestManaging as managing
-use Rattle.cmc_rules.specs.RequestManaging.{request_manager}
-use Rattle.cmc_rules.specs.Granting.{issuer, grant_of, grant_one}
-use Rattle.cmc_rules.specs.Issuing as issuance
-use Rattle.cmc_rules.specs.Issuing.{issuing}
-use Rattle.cmc_rules.specs.Readying.{readiness, ready_of}
+use Rattle.cmc_rules.specs.RequestManager as managing
+use Rattle.cmc_rules.specs.RequestManager.{request_manager}
+use Rattle.cmc_rules.specs.Issuer.{issuer, grant_of, grant_one}
+use Rattle.cmc_rules.specs.Issuance as issuance
+use Rattle.cmc_rules.specs.Issuance.{issuing}
+use Rattle.cmc_rules.specs.Readiness.{readiness, ready_of}
 use Rattle.cmc_rules.proofs.Sighted.{stands_among, picked}
 use Rattle.cmc_plain.specs.Waits.{wait_of, wait_of_next, wait_of_request, wait_of_seen, wait_in}
 use Rattle.cmc_safety.proofs.Carried.{standing_has}

@@ -13,10 +13,10 @@ use Rattle.cmc_objects.specs.declared.entry.Entry.TheVariants.{Script, Call as C
 use Rattle.cmc_objects.specs.declared.entry.Who.TheVariants.{User, Pass}
 use Rattle.cmc_objects.specs.declared.orders.Order.{Order}
 use Rattle.cmc_objects.specs.declared.role.Role.{Role}
-use Rattle.cmc_objects.specs.Watching.{kind_of_work}
+use Rattle.cmc_objects.specs.Informers.{kind_of_work}
 use Rattle.cmc_pass.specs.declared.value.Value.{Value}
 use Rattle.cmc_pass.specs.declared.value.Value.TheVariants as values
-use Rattle.cmc_pass.specs.Giving.{value_of}
+use Rattle.cmc_pass.specs.GivenValues.{value_of}
 use Rattle.cmc_queue.specs.Queues.{has_room, row_of, ChangesRow, ChangesRows, KeepsRoom, Work}
 use Rattle.cmc_queue.specs.declared.row.Parked.{Parked}
 use Rattle.cmc_queue.specs.declared.row.Row.{Row}
@@ -40,10 +40,10 @@ use Rattle.cmc_rules.specs.Memory.{ending_of, past}
 use Rattle.cmc_rules.specs.Origins.{begun as numbered}
 use Rattle.cmc_rules.specs.Passes.{is_pass_of, new_pass, open_pass, stage_after, stage_given}
 use Rattle.cmc_rules.specs.Positions.{position, positions}
-use Rattle.cmc_rules.specs.Following.{Follows}
+use Rattle.cmc_rules.specs.UserSteps.{Follows}
 use Rattle.cmc_rules.specs.Runs.{IsRun}
-use Rattle.cmc_rules.specs.Scripting.{scripted}
-use Rattle.cmc_rules.specs.Viewing.{views}
+use Rattle.cmc_rules.specs.Scripts.{scripted}
+use Rattle.cmc_rules.specs.Views.{views}
 use Rattle.cmc_rules.proofs.Carrying.{over_ask, over_begin, over_call, over_end, over_given, over_stop}
 use Rattle.cmc_caches.specs.Affected.{is_among}
 use Rattle.cmc_moves.specs.Answers.{is_done, beginning, delivered, asked_once, kept_of, next_effect, value_entry, GrowsBy, IsOfPass, Leaves, LeavesAsked}
@@ -52,10 +52,10 @@ use Rattle.cmc_moves.specs.declared.moves.Move.TheVariants as moves
 use Rattle.cmc_moves.specs.declared.moves.Stepped.{Stepped}
 use Rattle.cmc_moves.specs.declared.moves.Stepped.TheVariants as answers
 use Rattle.cmc_setup.specs.Setups.{Setup, IsOrderlyFrom}
-use Rattle.cmc_waking.specs.Feeding.{row_begun, closed, row_delivered}
-use Rattle.cmc_waking.specs.Parking.{waits_for}
+use Rattle.cmc_waking.specs.Feeds.{row_begun, closed, row_delivered}
+use Rattle.cmc_waking.specs.Parked.{waits_for}
 use Rattle.cmc_waking.specs.Queues.{queue_in, row_at, HasPlaceFor, KeepsOthers}
-use Rattle.cmc_waking.specs.Waking.{IsTimed}
+use Rattle.cmc_waking.specs.WakeUps.{IsTimed}
 use Rattle.cmc_waking.proofs.Owners.{same_role}
 use Rattle.cmc_world.specs.Kept.{Seen, setting_of, on}
 use Rattle.cmc_plain.specs.Fed.{AreAffected, HasRoomsFor, HasRow, IsAhead, IsClosingIfOpen, IsClosingOf, IsFed, IsGoing, IsOfStore, IsWrote, IsStarting, IsToClose, IsToTurn, IsDeliveredTo}

@@ -5,7 +5,7 @@ use Rattle.std.specs.Prelude.{◌&&◌, not}
 use Rattle.cmc_meta.specs.declared.key.Key.{Key}
 use Rattle.cmc_objects.specs.declared.role.Role.{Role}
 use Rattle.cmc_objects.specs.declared.entry.Entry.{Entry}
-use Rattle.cmc_objects.specs.Watching.{kind_of_work}
+use Rattle.cmc_objects.specs.Informers.{kind_of_work}
 use Rattle.cmc_queue.specs.declared.row.Found.{Found}
 use Rattle.cmc_queue.specs.declared.row.Found.TheVariants as found
 use Rattle.cmc_queue.specs.declared.row.Row.{Row}
@@ -17,7 +17,7 @@ use Rattle.cmc_rules.specs.Legality.{IsLegal}
 use Rattle.cmc_moves.proofs.Sounds.{each_sound}
 use Rattle.cmc_moves.specs.Quiet.{IsQuiet}
 use Rattle.cmc_waking.specs.Queues.{row_at}
-use Rattle.cmc_waking.specs.Waking.{IsSearched}
+use Rattle.cmc_waking.specs.WakeUps.{IsSearched}
 use Rattle.cmc_waking.proofs.Promise.{searched}
 use Rattle.cmc_plain.specs.Fed.{IsFed}
 use Rattle.cmc_plain.specs.Plain.{Fits, MayBegin}

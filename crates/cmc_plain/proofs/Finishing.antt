@@ -27,17 +27,17 @@ use Rattle.cmc_rules.specs.declared.progress.Ending.TheVariants as endings
 use Rattle.cmc_rules.specs.declared.progress.LastPass.{LastPass}
 use Rattle.cmc_model.specs.Histories.{Setting, moment, runs}
 use Rattle.cmc_model.specs.Writes.{writes, kind_eq, last_of_kind, is_known}
-use Rattle.cmc_objects.specs.Watching.{kind_of_work, has_informer}
+use Rattle.cmc_objects.specs.Informers.{kind_of_work, has_informer}
 use Rattle.cmc_rules.specs.Positions.{position, position_of, positions}
-use Rattle.cmc_rules.specs.Viewing.{views, present_views}
+use Rattle.cmc_rules.specs.Views.{views, present_views}
 use Rattle.cmc_rules.specs.Desks.{desk}
 use Rattle.cmc_rules.specs.Acts.{act}
 use Rattle.cmc_rules.specs.Passes.{open_pass, is_pass_of}
 use Rattle.cmc_rules.specs.Memory.{past}
 use Rattle.cmc_rules.specs.Sameness.{IsStillBehind, EndsAlike, IsSame, IsDue}
-use Rattle.cmc_rules.specs.Scripting.{scripted, held, has_held}
-use Rattle.cmc_rules.specs.Following.{owed, IsReady}
-use Rattle.cmc_rules.specs.Resting.{IsIdle, IsPaused, RestsOn, IsAtRest}
+use Rattle.cmc_rules.specs.Scripts.{scripted, held, has_held}
+use Rattle.cmc_rules.specs.UserSteps.{owed, IsReady}
+use Rattle.cmc_rules.specs.Rest.{IsIdle, IsPaused, RestsOn, IsAtRest}
 use Rattle.cmc_rules.specs.Runs.{IsRun, IsFinished}
 use Rattle.cmc_rules.specs.Sameness.{own_above}
 use Rattle.cmc_rules.specs.Passes.{IsWorking}

@@ -37,10 +37,10 @@ use Rattle.cmc_rules.specs.declared.progress.Stage.{Stage}
 use Rattle.cmc_rules.specs.declared.progress.Stage.TheVariants.{Fresh, Asked, Given, Read, Saved, Wrote, Refused, Barred}
 use Rattle.cmc_rules.specs.Acts.{act}
 use Rattle.cmc_rules.specs.Desks.{desk}
-use Rattle.cmc_rules.specs.Triggering.{is_issuing}
-use Rattle.cmc_rules.specs.KeyManaging.{key_order, ask_key, make_call, drop_call, name_call, reused, rotated, only_key, dropped, while_issuing, unnamed, while_idle, keys_of, key_manager, target_key}
+use Rattle.cmc_rules.specs.Trigger.{is_issuing}
+use Rattle.cmc_rules.specs.KeyManager.{key_order, ask_key, make_call, drop_call, name_call, reused, rotated, only_key, dropped, while_issuing, unnamed, while_idle, keys_of, key_manager, target_key}
 use Rattle.cmc_rules.specs.NextKeys.{is_named, has_fitting_key}
-use Rattle.cmc_rules.specs.Granting.{certificate_of, has_reason, is_open, is_request_waiting, sign_order, ask_issuer, deny, grant, grant_of, issuer}
+use Rattle.cmc_rules.specs.Issuer.{certificate_of, has_reason, is_open, is_request_waiting, sign_order, ask_issuer, deny, grant, grant_of, issuer}
 use Rattle.cmc_rules.specs.Passes.{open_pass}
 use Rattle.cmc_rules.specs.Legality.{IsLegal}
 use Rattle.cmc_rules.specs.Causes.{act_of, IsAsked, AsksBy, MayAsk, IsCaused}

@@ -12,8 +12,8 @@ use Rattle.cmc_model.specs.Histories.{Setting, incarnation, moment}
 use Rattle.cmc_rules.specs.Acts.{act}
 use Rattle.cmc_rules.specs.Causes.{act_of}
 use Rattle.cmc_rules.specs.Desks.{desk}
-use Rattle.cmc_rules.specs.Resting.{IsIdle}
-use Rattle.cmc_rules.specs.Viewing.{views}
+use Rattle.cmc_rules.specs.Rest.{IsIdle}
+use Rattle.cmc_rules.specs.Views.{views}
 use Rattle.cmc_rules.specs.Legality.{IsOpen}
 use Rattle.cmc_rules.specs.Origins.{origin_at, origins}
 use Rattle.cmc_rules.specs.Passes.{open_pass}
@@ -22,7 +22,7 @@ use Rattle.cmc_moves.specs.Prospects.{IsFirstAct, IsProspect}
 use Rattle.cmc_moves.specs.declared.moves.Stepped.{Stepped}
 use Rattle.cmc_moves.specs.declared.moves.Stepped.TheVariants.{Ended, NotNow}
 use Rattle.cmc_moves.specs.declared.moves.Lack.TheVariants.{NoPass}
-use Rattle.cmc_plain.specs.Keeping.{DoesOn, IsActOn, IsCurrent, IsMine}
+use Rattle.cmc_plain.specs.KeptLooks.{DoesOn, IsActOn, IsCurrent, IsMine}
 use Rattle.cmc_plain.specs.Plain.{IsOfPresent}
 use Rattle.cmc_plain.specs.Searches.{prospect, HasWork, IsWork}
 use Rattle.cmc_plain.specs.declared.openings.Opening.{Opening}

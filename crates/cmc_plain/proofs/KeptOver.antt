@@ -33,7 +33,7 @@ use Rattle.cmc_rules.specs.Origins.{begun}
 use Rattle.cmc_rules.specs.Passes.{open_pass}
 use Rattle.cmc_rules.specs.Positions.{position}
 use Rattle.cmc_rules.specs.Runs.{IsRun}
-use Rattle.cmc_rules.specs.Viewing.{views}
+use Rattle.cmc_rules.specs.Views.{views}
 use Rattle.cmc_rules.proofs.Positions.{views_called}
 use Rattle.cmc_moves.specs.Answers.{beginning, delivered, told_order, IsOfPass, Leaves}
 use Rattle.cmc_moves.specs.Prospects.{IsFirstAct}
@@ -41,7 +41,7 @@ use Rattle.cmc_moves.specs.declared.moves.Move.TheVariants as moves
 use Rattle.cmc_moves.specs.declared.moves.Stepped.{Stepped}
 use Rattle.cmc_moves.specs.declared.moves.Stepped.TheVariants as answers
 use Rattle.cmc_world.specs.Kept.{Seen, setting_of, on}
-use Rattle.cmc_plain.specs.Keeping.{AreCurrent, IsActOn, IsCurrent, IsKeptRight}
+use Rattle.cmc_plain.specs.KeptLooks.{AreCurrent, IsActOn, IsCurrent, IsKeptRight}
 use Rattle.cmc_plain.specs.Next.{IsNewestPass}
 use Rattle.cmc_plain.specs.Plain.{IsBehind}
 use Rattle.cmc_plain.specs.Searches.{FindsDelivery, HasNoneBefore, IsBehindInSome}

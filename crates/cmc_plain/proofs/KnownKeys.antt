@@ -14,7 +14,7 @@ use Rattle.cmc_objects.specs.declared.entry.Step.{Step}
 use Rattle.cmc_objects.specs.declared.entry.Step.TheVariants as steps
 use Rattle.cmc_objects.specs.declared.role.Role.{Role}
 use Rattle.cmc_objects.specs.Roles.{role_rank}
-use Rattle.cmc_objects.specs.Watching.{kind_of_work}
+use Rattle.cmc_objects.specs.Informers.{kind_of_work}
 use Rattle.cmc_queue.specs.Queues.{row_of, Work}
 use Rattle.cmc_queue.specs.Rows.{no_row}
 use Rattle.cmc_held.proofs.Numbered.{list_any-reverse}
@@ -22,8 +22,8 @@ use Rattle.cmc_model.specs.declared.write.Write.{Write}
 use Rattle.cmc_model.specs.Histories.{Setting, accepted, moment, objects, role_eq}
 use Rattle.cmc_model.specs.Writes.{is_known, kind_eq, writes}
 use Rattle.cmc_rules.specs.declared.effect.Effect.{Effect}
-use Rattle.cmc_rules.specs.Following.{call_of, call_or, effect_besides, effect_of}
-use Rattle.cmc_rules.specs.Scripting.{scripted, step_at}
+use Rattle.cmc_rules.specs.UserSteps.{call_of, call_or, effect_besides, effect_of}
+use Rattle.cmc_rules.specs.Scripts.{scripted, step_at}
 use Rattle.cmc_caches.specs.Affected.{is_among}
 use Rattle.cmc_moves.specs.Answers.{next_effect}
 use Rattle.cmc_waking.specs.Queues.{KeepsOthers}

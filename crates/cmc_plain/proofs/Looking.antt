@@ -8,7 +8,7 @@ use Rattle.cmc_meta.specs.declared.key.Kind.{Kind}
 use Rattle.cmc_meta.specs.Keys.{kind_rank}
 use Rattle.cmc_objects.specs.declared.role.Role.{Role}
 use Rattle.cmc_objects.specs.declared.entry.Entry.{Entry}
-use Rattle.cmc_objects.specs.Watching.{kind_of_work}
+use Rattle.cmc_objects.specs.Informers.{kind_of_work}
 use Rattle.cmc_queue.specs.declared.row.Parked.{Parked}
 use Rattle.cmc_queue.specs.declared.row.Row.{Row}
 use Rattle.cmc_queue.specs.Queues.{ChangesRow, Work}
@@ -18,23 +18,23 @@ use Rattle.cmc_model.specs.Writes.{kind_eq}
 use Rattle.cmc_rules.specs.Memory.{past}
 use Rattle.cmc_rules.specs.Passes.{IsWorking}
 use Rattle.cmc_rules.specs.Positions.{positions}
-use Rattle.cmc_rules.specs.Resting.{IsIdle}
+use Rattle.cmc_rules.specs.Rest.{IsIdle}
 use Rattle.cmc_rules.specs.Sound.{IsDueMoment}
-use Rattle.cmc_rules.specs.Viewing.{views}
+use Rattle.cmc_rules.specs.Views.{views}
 use Rattle.cmc_pass.specs.declared.pass.Act.TheVariants as acts
 use Rattle.cmc_pass.specs.declared.pass.Views.{Views}
 use Rattle.cmc_moves.specs.Quiet.{seen_last}
 use Rattle.cmc_moves.proofs.Sounds.{each_sound}
 use Rattle.cmc_world.proofs.AtRest.{same_kind}
-use Rattle.cmc_waking.specs.Feeding.{found_busy, found_parked, found_idle, found_quiet}
-use Rattle.cmc_waking.specs.Parking.{own_ahead}
+use Rattle.cmc_waking.specs.Feeds.{found_busy, found_parked, found_idle, found_quiet}
+use Rattle.cmc_waking.specs.Parked.{own_ahead}
 use Rattle.cmc_waking.specs.Queues.{queue_in, row_at, KeepsOthers}
-use Rattle.cmc_waking.specs.Waking.{AreTended, IsBarredBy, IsDueNow, IsTended, IsTimed, IsWaiting}
+use Rattle.cmc_waking.specs.WakeUps.{AreTended, IsBarredBy, IsDueNow, IsTended, IsTimed, IsWaiting}
 use Rattle.cmc_waking.proofs.Barring.{own_behind, own_is, IsBehind, IsOwn}
 use Rattle.cmc_waking.proofs.Tended.{waiting_undue}
 use Rattle.cmc_plain.specs.DueMoments.{IsFirstAfter}
 use Rattle.cmc_plain.specs.Fed.{IsFed}
-use Rattle.cmc_plain.specs.Keeping.{IsCurrent}
+use Rattle.cmc_plain.specs.KeptLooks.{IsCurrent}
 use Rattle.cmc_plain.specs.Looks.{FindsIdle, FindsQuiet}
 use Rattle.cmc_plain.specs.Searches.{HasWork, IsFree}
 use Rattle.cmc_plain.specs.declared.openings.Opening.{Opening}

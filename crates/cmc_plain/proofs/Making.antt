@@ -8,7 +8,7 @@ use Rattle.cmc_objects.specs.declared.role.Role.{Role}
 use Rattle.cmc_objects.specs.declared.entry.Entry.{Entry}
 use Rattle.cmc_objects.specs.declared.entry.Entry.TheVariants.{Ask}
 use Rattle.cmc_objects.specs.declared.orders.Order.{Order}
-use Rattle.cmc_pass.specs.Giving.{order_of, value_of}
+use Rattle.cmc_pass.specs.GivenValues.{order_of, value_of}
 use Rattle.cmc_pass.specs.declared.given.Given.{Given}
 use Rattle.cmc_pass.specs.declared.value.Value.{Value}
 use Rattle.cmc_pass.specs.declared.value.Value.TheVariants.{Made, Signed, Answered, Judged}
@@ -31,7 +31,7 @@ use Rattle.cmc_moves.specs.Answers.{Need, Bar, BarOf, FitsLimit as HasRoom, outd
 use Rattle.cmc_world.proofs.Leading.{new_may}
 use Rattle.cmc_world.proofs.AtRest.{same_kind}
 use Rattle.cmc_plain.specs.Plain.{IsStepReady, IsBehind, IsOfPresent, Fits, IsChosen}
-use Rattle.cmc_plain.specs.Driving.{IsNextWith, IsMadeFor, goes_on}
+use Rattle.cmc_plain.specs.Turns.{IsNextWith, IsMadeFor, goes_on}
 use Rattle.cmc_plain.specs.Histories.{GrowsPlainly, entries_for}
 use Rattle.cmc_plain.specs.Searches.{is_possible}
 use Rattle.cmc_world.proofs.OneKind.{last_low}

@@ -10,7 +10,7 @@ use Rattle.cmc_objects.specs.declared.entry.Entry.{Entry}
 use Rattle.cmc_objects.specs.declared.entry.Entry.TheVariants.{Script, Call as Called, Deliver, List as Listed, Begin, Ask, Made, Signed, Answered, Judged, End, Stop, Start, Tick}
 use Rattle.cmc_objects.specs.declared.entry.Positions.{Positions}
 use Rattle.cmc_objects.specs.declared.role.Role.{Role}
-use Rattle.cmc_objects.specs.Watching.{kind_of_work}
+use Rattle.cmc_objects.specs.Informers.{kind_of_work}
 use Rattle.cmc_queue.specs.Queues.{row_of, ChangesRow, ChangesRows, Work}
 use Rattle.cmc_queue.specs.declared.row.Row.{Row}
 use Rattle.cmc_queue.specs.Rows.{is_free, no_row, ticked}
@@ -21,13 +21,13 @@ use Rattle.cmc_rules.specs.Legality.{IsLegal}
 use Rattle.cmc_rules.specs.Memory.{ending_of, past}
 use Rattle.cmc_rules.specs.Passes.{is_pass_of, open_pass}
 use Rattle.cmc_rules.specs.Positions.{positions}
-use Rattle.cmc_rules.specs.Viewing.{views}
+use Rattle.cmc_rules.specs.Views.{views}
 use Rattle.cmc_moves.proofs.Sounds.{each_sound}
 use Rattle.cmc_caches.specs.Affected.{is_among}
 use Rattle.cmc_moves.specs.Quiet.{no_views}
-use Rattle.cmc_waking.specs.Feeding.{row_begun, closed, started, row_delivered}
+use Rattle.cmc_waking.specs.Feeds.{row_begun, closed, started, row_delivered}
 use Rattle.cmc_waking.specs.Queues.{queue_in, row_at, KeepsOthers}
-use Rattle.cmc_waking.specs.Waking.{AreTended, IsTended, IsTimed}
+use Rattle.cmc_waking.specs.WakeUps.{AreTended, IsTended, IsTimed}
 use Rattle.cmc_waking.proofs.Entries.{tended_answered, tended_ask, tended_begun_other, tended_call, tended_delivered_other, tended_ended_other, tended_judged, tended_listed_other, tended_made, tended_script, tended_signed, tended_started_other, tended_stopped_other}
 use Rattle.cmc_waking.proofs.Owners.{same_role, equal_roles}
 use Rattle.cmc_waking.proofs.Rows.{are_same}

@@ -21,8 +21,8 @@ use Rattle.cmc_objects.specs.Objects.{key_of}
 use Rattle.cmc_model.specs.Histories.{Setting, objects}
 use Rattle.cmc_meta.proofs.KeyOrder.{key_cmp-total}
 use Rattle.cmc_rules.specs.Legality.{IsLegal}
-use Rattle.cmc_rules.specs.Sighting.{IsAmong}
-use Rattle.cmc_rules.specs.Viewing.{is_owned, has_next_label, next_in, next_of}
+use Rattle.cmc_rules.specs.SeenObjects.{IsAmong}
+use Rattle.cmc_rules.specs.Views.{is_owned, has_next_label, next_in, next_of}
 use Rattle.cmc_rules.proofs.Sighted.{stands_among, picked}
 use Rattle.cmc_rules.proofs.Versions.{stands_is_version, version_keyed}
 

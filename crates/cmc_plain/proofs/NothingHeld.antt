@@ -8,10 +8,10 @@ use Rattle.cmc_objects.specs.declared.role.Role.{Role}
 use Rattle.cmc_objects.specs.declared.role.Role.TheVariants.{Trigger, KeyManager, RequestManager, Approver, Issuer, Issuing, Readiness, Revision}
 use Rattle.cmc_objects.specs.declared.entry.Entry.{Entry}
 use Rattle.cmc_model.specs.Histories.{Setting, runs}
-use Rattle.cmc_objects.specs.Watching.{has_informer}
-use Rattle.cmc_rules.specs.Scripting.{held}
-use Rattle.cmc_rules.specs.Resting.{IsAtRest}
-use Rattle.cmc_rules.specs.Sighting.{IsAmong}
+use Rattle.cmc_objects.specs.Informers.{has_informer}
+use Rattle.cmc_rules.specs.Scripts.{held}
+use Rattle.cmc_rules.specs.Rest.{IsAtRest}
+use Rattle.cmc_rules.specs.SeenObjects.{IsAmong}
 use Rattle.cmc_moves.specs.declared.moves.Stepped.{Stepped}
 use Rattle.cmc_moves.specs.declared.moves.Stepped.TheVariants.{NotNow, Done, Spent}
 use Rattle.cmc_moves.specs.declared.moves.Lack.TheVariants.{Stopped, NoInformer, Held, Current, NotAWrite}

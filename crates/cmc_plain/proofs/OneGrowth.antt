@@ -23,7 +23,7 @@ use Rattle.cmc_model.specs.Histories.{Setting, state}
 use Rattle.cmc_rules.specs.Passes.{open_pass}
 use Rattle.cmc_rules.specs.Causes.{act_of, after_of, IsFirstCall, IsSecretCall, IsStatusCall, IsNextCall, MayCall, IsAsked, AsksBy, MayAsk, IsGivenBy, MayGive, EndsBy, MayEnd}
 use Rattle.cmc_rules.specs.Runs.{IsRun}
-use Rattle.cmc_rules.specs.Scripting.{scripted}
+use Rattle.cmc_rules.specs.Scripts.{scripted}
 use Rattle.cmc_safety.proofs.Course.{HasCome, HasComeTo, has_come}
 use Rattle.cmc_moves.specs.declared.moves.Move.{Move}
 use Rattle.cmc_moves.specs.declared.moves.Move.TheVariants as moves

@@ -9,7 +9,7 @@ use Rattle.cmc_pass.specs.declared.value.Value.{Value}
 use Rattle.cmc_pass.specs.declared.value.Value.TheVariants as values
 use Rattle.cmc_pass.specs.Values.{IsValue}
 use Rattle.cmc_rules.specs.Safety.{LastAsks}
-use Rattle.cmc_world.specs.Leading.{Extends}
+use Rattle.cmc_world.specs.Leads.{Extends}
 use Rattle.cmc_plain.specs.Histories.{IsBound, HasNoFree}
 
 pub one_value : (order : Order) (v w : Value) → IsBound order → IsValue order v → IsValue order w → v ≡ w

@@ -14,9 +14,9 @@ use Rattle.cmc_objects.specs.declared.object.Object.{Object}
 use Rattle.cmc_objects.specs.declared.object.Object.TheVariants.{Cert, Request, Secret}
 use Rattle.cmc_objects.specs.declared.call.Call.{Call}
 use Rattle.cmc_model.specs.Admission.{is_of_condition}
-use Rattle.cmc_rules.specs.Answering.{issued_condition, pending_condition, failed_condition, answered}
-use Rattle.cmc_rules.specs.Approving.{judged_status}
-use Rattle.cmc_rules.specs.Granting.{denied_condition, denied_status}
+use Rattle.cmc_rules.specs.IssuerAnswers.{issued_condition, pending_condition, failed_condition, answered}
+use Rattle.cmc_rules.specs.Approver.{judged_status}
+use Rattle.cmc_rules.specs.Issuer.{denied_condition, denied_status}
 use Rattle.cmc_rules.proofs.Conditions.{kept_kind}
 use Rattle.cmc_rules.proofs.Verdicts.{apart, find_same}
 use Rattle.cmc_safety.proofs.Kept.{IsKept, Any, Brings, status_kept}

@@ -24,7 +24,7 @@ use Rattle.cmc_rules.specs.Causes.{IsFirstCall, IsSecretCall, IsStatusCall, IsNe
 use Rattle.cmc_rules.specs.Desks.{desk}
 use Rattle.cmc_rules.specs.Passes.{open_pass}
 use Rattle.cmc_rules.specs.UserWrites.{verdict, judge_call, answer_call, renew_call}
-use Rattle.cmc_rules.specs.Following.{Follows}
+use Rattle.cmc_rules.specs.UserSteps.{Follows}
 use Rattle.cmc_rules.proofs.Sights.{seen_request}
 use Rattle.cmc_rules.proofs.Sighted.{AreKnown, SawKnown, saw_known}
 use Rattle.cmc_safety.proofs.Users.{IsOfSteps, of_steps}

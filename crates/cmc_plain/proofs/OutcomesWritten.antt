@@ -17,7 +17,7 @@ use Rattle.cmc_meta.specs.declared.conditions.Condition.{Condition}
 use Rattle.cmc_meta.specs.ConditionLists.{condition_rank}
 use Rattle.cmc_policies.specs.declared.facts.Reason.{Reason}
 use Rattle.cmc_answers.specs.declared.denial.Denial.{Denial}
-use Rattle.cmc_answers.specs.Judging.{denial_of}
+use Rattle.cmc_answers.specs.Denials.{denial_of}
 use Rattle.cmc_pass.specs.declared.pass.Views.{Views}
 use Rattle.cmc_pass.specs.declared.pass.Desk.{Desk}
 use Rattle.cmc_pass.specs.declared.pass.Act.{Act}
@@ -25,24 +25,24 @@ use Rattle.cmc_pass.specs.declared.pass.Act.TheVariants.{Nothing, Call as Calls,
 use Rattle.cmc_pass.specs.declared.value.Value.{Value}
 use Rattle.cmc_pass.specs.declared.value.Value.TheVariants as values
 use Rattle.cmc_rules.specs.Acts.{act, call_after}
-use Rattle.cmc_rules.specs.Triggering as triggering
-use Rattle.cmc_rules.specs.KeyManaging as keys
-use Rattle.cmc_rules.specs.RequestManaging as requests
-use Rattle.cmc_rules.specs.Approving as approving
-use Rattle.cmc_rules.specs.Granting as granting
-use Rattle.cmc_rules.specs.Issuing as issuance
-use Rattle.cmc_rules.specs.Readying as readying
-use Rattle.cmc_rules.specs.Revising as revising
+use Rattle.cmc_rules.specs.Trigger as triggering
+use Rattle.cmc_rules.specs.KeyManager as keys
+use Rattle.cmc_rules.specs.RequestManager as requests
+use Rattle.cmc_rules.specs.Approver as approving
+use Rattle.cmc_rules.specs.Issuer as granting
+use Rattle.cmc_rules.specs.Issuance as issuance
+use Rattle.cmc_rules.specs.Readiness as readying
+use Rattle.cmc_rules.specs.RevisionManager as revising
 use Rattle.cmc_rules.specs.NextKeys.{named_key}
 use Rattle.cmc_rules.specs.NextRequests.{next_requests}
-use Rattle.cmc_rules.specs.Triggering.{trigger, for_certificate, for_reason, issue_call}
-use Rattle.cmc_rules.specs.KeyManaging.{key_manager, key_after, name_call, drop_call, ask_key, make_call}
-use Rattle.cmc_rules.specs.RequestManaging.{request_manager, request_after, ask_signature, make_request}
-use Rattle.cmc_rules.specs.Approving.{approver, judged_after, ask_judgement, verdict_call, approval, denied_for, verdict_by, verdict_of}
-use Rattle.cmc_rules.specs.Granting.{issuer, answered_after, ask_issuer}
-use Rattle.cmc_rules.specs.Issuing.{issuing, failure, issue_plan, temporary_plan, secret_call}
-use Rattle.cmc_rules.specs.Readying.{readiness, ready_call}
-use Rattle.cmc_rules.specs.Revising.{revise, delete_call, delete_of}
+use Rattle.cmc_rules.specs.Trigger.{trigger, for_certificate, for_reason, issue_call}
+use Rattle.cmc_rules.specs.KeyManager.{key_manager, key_after, name_call, drop_call, ask_key, make_call}
+use Rattle.cmc_rules.specs.RequestManager.{request_manager, request_after, ask_signature, make_request}
+use Rattle.cmc_rules.specs.Approver.{approver, judged_after, ask_judgement, verdict_call, approval, denied_for, verdict_by, verdict_of}
+use Rattle.cmc_rules.specs.Issuer.{issuer, answered_after, ask_issuer}
+use Rattle.cmc_rules.specs.Issuance.{issuing, failure, issue_plan, temporary_plan, secret_call}
+use Rattle.cmc_rules.specs.Readiness.{readiness, ready_call}
+use Rattle.cmc_rules.specs.RevisionManager.{revise, delete_call, delete_of}
 use Rattle.cmc_plain.proofs.Outcomes.{HasOutcome, IsAnsweredCall, outcome_judged, outcome_denied, outcome_answered}
 
 -- ---- acts

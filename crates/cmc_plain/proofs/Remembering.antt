@@ -38,12 +38,12 @@ use Rattle.cmc_model.specs.Replies.{is_accepted, key_of_call, settled}
 use Rattle.cmc_model.proofs.Settling.{kind_of-settled}
 use Rattle.cmc_model.specs.Histories.{Setting, moment, state, accepted, role_eq}
 use Rattle.cmc_model.specs.Writes.{writes, write_of, last_of_kind, last_under}
-use Rattle.cmc_objects.specs.Watching.{has_informer}
+use Rattle.cmc_objects.specs.Informers.{has_informer}
 use Rattle.cmc_rules.specs.Positions.{position_of}
-use Rattle.cmc_rules.specs.Viewing.{views}
+use Rattle.cmc_rules.specs.Views.{views}
 use Rattle.cmc_rules.specs.Desks.{desk}
 use Rattle.cmc_rules.specs.Acts.{act}
-use Rattle.cmc_rules.specs.Issuing.{issuing}
+use Rattle.cmc_rules.specs.Issuance.{issuing}
 use Rattle.cmc_rules.specs.Passes.{open_pass, called, new_pass, stage_by, stage_after, stage_given, stage_read, stage_written, is_as_seen, is_temporary_act, with_stage, is_pass_of}
 use Rattle.cmc_rules.specs.Memory.{past, no_past, with_begin, with_own, with_position, with_ending, ending_at, ending_of}
 use Rattle.cmc_rules.specs.Legality.{IsLegal}

@@ -6,10 +6,10 @@ use Rattle.cmc_objects.specs.declared.role.Role.{Role}
 use Rattle.cmc_objects.specs.declared.entry.Entry.{Entry}
 use Rattle.cmc_model.specs.Histories.{Setting, runs}
 use Rattle.cmc_pass.specs.declared.pass.Views.{Views}
-use Rattle.cmc_rules.specs.Resting.{IsAtRest, IsIdle, IsPaused, RestsOnKnown}
+use Rattle.cmc_rules.specs.Rest.{IsAtRest, IsIdle, IsPaused, RestsOnKnown}
 use Rattle.cmc_rules.specs.Runs.{IsRun}
-use Rattle.cmc_rules.specs.Scripting.{has_held}
-use Rattle.cmc_rules.specs.Viewing.{present_views}
+use Rattle.cmc_rules.specs.Scripts.{has_held}
+use Rattle.cmc_rules.specs.Views.{present_views}
 use Rattle.cmc_plain.specs.Plain.{HasNoPass, HasNoDelivery}
 use Rattle.cmc_plain.specs.Searches.{FindsDelivery, FindsPass, HasWork, RestsWhereRunning}
 use Rattle.cmc_plain.specs.declared.deliveries.Delivery.{Delivery}

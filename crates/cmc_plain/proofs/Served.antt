@@ -10,7 +10,7 @@ use Rattle.cmc_objects.specs.declared.entry.Entry.{Entry}
 use Rattle.cmc_objects.specs.declared.entry.Entry.TheVariants.{Deliver, List as Listed, Begin, End, Stop, Start, Tick}
 use Rattle.cmc_objects.specs.declared.entry.Positions.{Positions}
 use Rattle.cmc_objects.specs.declared.role.Role.{Role}
-use Rattle.cmc_objects.specs.Watching.{kind_of_work}
+use Rattle.cmc_objects.specs.Informers.{kind_of_work}
 use Rattle.cmc_queue.specs.declared.row.Parked.{Parked}
 use Rattle.cmc_queue.specs.declared.row.Row.{Row}
 use Rattle.cmc_queue.specs.Rows.{is_free, moved, no_row, ticked}
@@ -22,12 +22,12 @@ use Rattle.cmc_rules.specs.Legality.{IsLegal}
 use Rattle.cmc_rules.specs.Memory.{ending_of, past}
 use Rattle.cmc_rules.specs.Passes.{is_pass_of, open_pass}
 use Rattle.cmc_rules.specs.Positions.{position_of, positions}
-use Rattle.cmc_rules.specs.Resting.{IsIdle}
+use Rattle.cmc_rules.specs.Rest.{IsIdle}
 use Rattle.cmc_rules.specs.Sound as sound
-use Rattle.cmc_rules.specs.Viewing.{views}
+use Rattle.cmc_rules.specs.Views.{views}
 use Rattle.cmc_moves.specs.Quiet.{no_views, seen_last, IsQuiet}
-use Rattle.cmc_waking.specs.Feeding.{row_begun, closed, found_busy, found_parked, found_idle, found_quiet, started, row_delivered}
-use Rattle.cmc_waking.specs.Waking.{AreTended, IsDueNow, IsStoppedFor, IsTended, IsTimed}
+use Rattle.cmc_waking.specs.Feeds.{row_begun, closed, found_busy, found_parked, found_idle, found_quiet, started, row_delivered}
+use Rattle.cmc_waking.specs.WakeUps.{AreTended, IsDueNow, IsStoppedFor, IsTended, IsTimed}
 use Rattle.cmc_waking.proofs.Entries.{tended_begun, tended_begun_other, tended_delivered, tended_ended, tended_ended_other, tended_first, tended_listed, tended_started, tended_stopped, tended_ticked}
 use Rattle.cmc_waking.proofs.Looks.{tended_busy, tended_held, tended_idle, tended_quiet}
 use Rattle.cmc_waking.proofs.Rows.{are_changed, are_changed_one}

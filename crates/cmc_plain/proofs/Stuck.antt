@@ -35,19 +35,19 @@ use Rattle.cmc_pass.specs.declared.pass.IssuePlan.{IssuePlan}
 use Rattle.cmc_pass.specs.declared.pass.Act.{Act}
 use Rattle.cmc_pass.specs.declared.pass.Act.TheVariants.{Nothing, Call as Calls, Issue}
 use Rattle.cmc_rules.specs.Chains.{trigger_chain, readiness_chain, trigger_reason, readiness_reason}
-use Rattle.cmc_rules.specs.Triggering.{is_issuing, is_backing_off, issue_call, for_reason, for_certificate, frame_of}
-use Rattle.cmc_rules.specs.KeyManaging.{dropped, while_issuing, name_call, drop_call}
+use Rattle.cmc_rules.specs.Trigger.{is_issuing, is_backing_off, issue_call, for_reason, for_certificate, frame_of}
+use Rattle.cmc_rules.specs.KeyManager.{dropped, while_issuing, name_call, drop_call}
 use Rattle.cmc_rules.specs.NextKeys.{is_named, named_key, is_fitting, has_fitting_key}
 use Rattle.cmc_rules.specs.NextRequests.{next_requests, is_next, is_wanted, says_refused, is_refused, failed_before}
-use Rattle.cmc_rules.specs.RequestManaging as managing
-use Rattle.cmc_rules.specs.RequestManaging.{ask_signature, is_stale, stale_request}
-use Rattle.cmc_rules.specs.Revising.{delete_call, delete_of}
-use Rattle.cmc_rules.specs.Granting as granting
-use Rattle.cmc_rules.specs.Granting.{gives}
-use Rattle.cmc_rules.specs.Issuing as issuance
-use Rattle.cmc_rules.specs.Issuing.{says_issued, is_granted, is_kept_for_keys, is_certified, failure, issue_plan, fails_now}
-use Rattle.cmc_rules.specs.Readying.{ready_condition, ready_by, ready_call, is_settled, says, ready_of}
-use Rattle.cmc_rules.specs.Sighting.{IsAmong}
+use Rattle.cmc_rules.specs.RequestManager as managing
+use Rattle.cmc_rules.specs.RequestManager.{ask_signature, is_stale, stale_request}
+use Rattle.cmc_rules.specs.RevisionManager.{delete_call, delete_of}
+use Rattle.cmc_rules.specs.Issuer as granting
+use Rattle.cmc_rules.specs.Issuer.{gives}
+use Rattle.cmc_rules.specs.Issuance as issuance
+use Rattle.cmc_rules.specs.Issuance.{says_issued, is_granted, is_kept_for_keys, is_certified, failure, issue_plan, fails_now}
+use Rattle.cmc_rules.specs.Readiness.{ready_condition, ready_by, ready_call, is_settled, says, ready_of}
+use Rattle.cmc_rules.specs.SeenObjects.{IsAmong}
 use Rattle.cmc_rules.proofs.Sights.{left_among}
 use Rattle.cmc_plain.specs.Waits.{is_unanswered, wait_of_request}
 use Rattle.cmc_plain.proofs.Outcomes.{IsOutcome, HasOutcome}

@@ -16,7 +16,7 @@ use Rattle.cmc_summary.specs.declared.summary.Waiting.{Waiting}
 use Rattle.cmc_summary.specs.declared.summary.WaitName.{WaitName}
 use Rattle.cmc_model.specs.Histories.{Setting, objects}
 use Rattle.cmc_model.specs.Summaries.{is_certificate, is_ready, is_waiting, says_ready}
-use Rattle.cmc_rules.specs.Sighting.{IsAmong}
+use Rattle.cmc_rules.specs.SeenObjects.{IsAmong}
 use Rattle.cmc_rules.proofs.Sighted.{stands_among}
 use Rattle.cmc_world.proofs.OneKind.{same_at}
 use Rattle.cmc_world.proofs.AtRest.{key_eq-refl}

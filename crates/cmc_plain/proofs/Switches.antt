@@ -13,8 +13,8 @@ use Rattle.cmc_objects.specs.declared.entry.Entry.TheVariants.{Script, Call as C
 use Rattle.cmc_rules.specs.declared.effect.Effect.{Effect}
 use Rattle.cmc_rules.specs.declared.effect.Effect.TheVariants as effects
 use Rattle.cmc_model.specs.Histories.{Setting, moment, objects, runs, role_eq}
-use Rattle.cmc_rules.specs.Scripting.{scripted, step_at}
-use Rattle.cmc_rules.specs.Following.{call_of, call_or, effect_of, owed, IsNextStep, Follows}
+use Rattle.cmc_rules.specs.Scripts.{scripted, step_at}
+use Rattle.cmc_rules.specs.UserSteps.{call_of, call_or, effect_of, owed, IsNextStep, Follows}
 use Rattle.cmc_setup.specs.Setups.{Setup, is_among, without_role, IsOrderlyFrom}
 use Rattle.cmc_setup.proofs.Orderly.{among_after}
 use Rattle.cmc_world.specs.Kept.{setting_of}

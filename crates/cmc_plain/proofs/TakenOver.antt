@@ -7,7 +7,7 @@ use Rattle.cmc_meta.specs.Keys.{key_eq}
 use Rattle.cmc_objects.specs.declared.role.Role.{Role}
 use Rattle.cmc_objects.specs.declared.entry.Entry.{Entry}
 use Rattle.cmc_objects.specs.declared.entry.Entry.TheVariants.{Call as Called, Begin, Ask, Made, Signed, Answered, Judged, End, Stop}
-use Rattle.cmc_objects.specs.Watching.{kind_of_work}
+use Rattle.cmc_objects.specs.Informers.{kind_of_work}
 use Rattle.cmc_pass.specs.declared.pass.Views.{Views}
 use Rattle.cmc_pass.specs.declared.value.Value.TheVariants as values
 use Rattle.cmc_queue.specs.declared.row.Found.{Found}
@@ -25,14 +25,14 @@ use Rattle.cmc_rules.specs.Memory.{past}
 use Rattle.cmc_rules.specs.Passes.{is_pass_of, new_pass, open_pass, stage_after, IsWorking}
 use Rattle.cmc_rules.specs.Positions.{positions}
 use Rattle.cmc_rules.specs.Sound.{IsDueMoment}
-use Rattle.cmc_rules.specs.Viewing.{views}
+use Rattle.cmc_rules.specs.Views.{views}
 use Rattle.cmc_rules.proofs.Carrying.{over_ask, over_begin, over_call, over_end, over_given, over_stop}
 use Rattle.cmc_caches.specs.Affected.{is_among}
 use Rattle.cmc_moves.proofs.Sounds.{each_sound}
 use Rattle.cmc_moves.specs.Quiet.{IsQuiet}
 use Rattle.cmc_queue.proofs.OneRow.{same_by_test}
 use Rattle.cmc_waking.specs.Queues.{queue_in, row_at}
-use Rattle.cmc_waking.specs.Waking.{AreTended, IsRowKept, IsLooked, IsLookedOrWaiting, IsTended}
+use Rattle.cmc_waking.specs.WakeUps.{AreTended, IsRowKept, IsLooked, IsLookedOrWaiting, IsTended}
 use Rattle.cmc_waking.proofs.Promise.{idle_anywhere}
 use Rattle.cmc_waking.proofs.Tended.{nothing_due}
 use Rattle.cmc_plain.specs.Fed.{AreFreshRows, IsFed, IsFreshRow, IsStarted}

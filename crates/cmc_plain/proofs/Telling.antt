@@ -3,13 +3,13 @@ use Rattle.std.proofs.Common.{◌≡◌, true, List, sym, subst}
 use Rattle.std.specs.Prelude.{◌↔◌, IsTrue}
 use Rattle.cmc_meta.specs.declared.key.Key.{Key}
 use Rattle.cmc_objects.specs.declared.role.Role.{Role}
-use Rattle.cmc_objects.specs.Watching.{kind_of_work}
+use Rattle.cmc_objects.specs.Informers.{kind_of_work}
 use Rattle.cmc_queue.specs.Queues.{row_of, Work}
 use Rattle.cmc_queue.specs.Rows.{no_row}
 use Rattle.cmc_model.specs.Histories.{runs}
 use Rattle.cmc_rules.specs.Passes.{IsWorking}
 use Rattle.cmc_waking.specs.Queues.{queue_in}
-use Rattle.cmc_waking.specs.Waking.{IsSearched, LosesNoWakeUp}
+use Rattle.cmc_waking.specs.WakeUps.{IsSearched, LosesNoWakeUp}
 use Rattle.cmc_waking.proofs.Promise.{loses_none}
 use Rattle.cmc_world.specs.Kept.{Seen, setting_of, on}
 use Rattle.cmc_plain.specs.Fed.{IsFed}

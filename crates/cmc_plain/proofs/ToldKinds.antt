@@ -19,13 +19,13 @@ use Rattle.cmc_model.specs.Generated.{named}
 use Rattle.cmc_model.specs.Histories.{Setting}
 use Rattle.cmc_model.specs.Replies.{key_of_call}
 use Rattle.cmc_rules.specs.declared.progress.OpenPass.{OpenPass}
-use Rattle.cmc_objects.specs.Watching.{has_informer, works_on_requests, looks_at_secret, looks_at_next, looks_at_requests}
-use Rattle.cmc_rules.specs.Viewing.{Caches, caches, certificate_at, request_at, target_at, next_of, requests_of, of_certificate, views_of, views_in, views}
+use Rattle.cmc_objects.specs.Informers.{has_informer, works_on_requests, looks_at_secret, looks_at_next, looks_at_requests}
+use Rattle.cmc_rules.specs.Views.{Caches, caches, certificate_at, request_at, target_at, next_of, requests_of, of_certificate, views_of, views_in, views}
 use Rattle.cmc_rules.specs.Passes.{open_pass, new_pass, stage_after}
 use Rattle.cmc_rules.specs.Legality.{IsLegal}
 use Rattle.cmc_rules.specs.Causes.{IsCaused, MayCall}
 use Rattle.cmc_rules.specs.Rights.{MayChange}
-use Rattle.cmc_rules.specs.Sighting.{IsPart, IsPartOf, IsSeen, ForNone, ForSeen, OnSeen}
+use Rattle.cmc_rules.specs.SeenObjects.{IsPart, IsPartOf, IsSeen, ForNone, ForSeen, OnSeen}
 use Rattle.cmc_rules.proofs.Carrying.{over_call, over_ask, over_given, over_begin, over_end, over_stop}
 use Rattle.cmc_rules.proofs.Sights.{seen_certificate}
 use Rattle.cmc_model.proofs.Settling.{kind_of-named}

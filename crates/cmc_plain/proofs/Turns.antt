@@ -16,7 +16,7 @@ use Rattle.cmc_plain.specs.Histories.{IsPlainStep, LeadsPlainly, IsPlain, IsFull
 use Rattle.cmc_plain.specs.declared.run.Driven.{Driven}
 use Rattle.cmc_plain.specs.declared.run.Driven.TheVariants.{Finished, Spent}
 use Rattle.cmc_plain.specs.declared.run.Turn.TheVariants as turns
-use Rattle.cmc_plain.specs.Driving.{GrowsByMove, IsDriving, IsDrained, IsDriven, IsMadeFor, IsTurn, EndsFrom, EndsPlainly, goes_on, turn_after}
+use Rattle.cmc_plain.specs.Turns.{GrowsByMove, IsDriving, IsDrained, IsDriven, IsMadeFor, IsTurn, EndsFrom, EndsPlainly, goes_on, turn_after}
 use Rattle.cmc_plain.proofs.Determined.{grown_length}
 use Rattle.cmc_plain.proofs.Going.{open_present}
 use Rattle.cmc_plain.proofs.Making.{ComesTo, chosen_comes}

@@ -34,10 +34,10 @@ use Rattle.cmc_rules.specs.Memory.{past}
 use Rattle.cmc_rules.specs.Runs.{IsRun}
 use Rattle.cmc_rules.specs.Positions.{position_of, positions}
 use Rattle.cmc_rules.specs.Sameness.{EndsAlike, IsDue, IsSame, own_above}
-use Rattle.cmc_rules.specs.Viewing.{views}
+use Rattle.cmc_rules.specs.Views.{views}
 use Rattle.cmc_moves.specs.Quiet.{IsQuiet, seen_last}
-use Rattle.cmc_waking.specs.Parking.{own_ahead, obstacle_ahead, waits_for, IsParkedUntil, IsRefusedUntil, OrElse}
-use Rattle.cmc_rules.specs.Resting.{IsIdle}
+use Rattle.cmc_waking.specs.Parked.{own_ahead, obstacle_ahead, waits_for, IsParkedUntil, IsRefusedUntil, OrElse}
+use Rattle.cmc_rules.specs.Rest.{IsIdle}
 use Rattle.cmc_rules.proofs.Sights.{seen_request}
 use Rattle.cmc_rules.proofs.Sighted.{views_known}
 use Rattle.cmc_safety.specs.Formed.{IsFormed}

@@ -21,9 +21,9 @@ use Rattle.cmc_pass.specs.declared.pass.Views.{Views}
 use Rattle.cmc_rules.specs.declared.progress.LastPass.{LastPass}
 use Rattle.cmc_rules.specs.declared.progress.Ending.{Ending}
 use Rattle.cmc_rules.specs.declared.progress.Past.{Past}
-use Rattle.cmc_objects.specs.Watching.{works_on_requests}
+use Rattle.cmc_objects.specs.Informers.{works_on_requests}
 use Rattle.cmc_rules.specs.Positions.{position, cache}
-use Rattle.cmc_rules.specs.Viewing.{certificate_in, request_in, certificate_at, request_at, views_of, views_in, views, Caches, caches}
+use Rattle.cmc_rules.specs.Views.{certificate_in, request_in, certificate_at, request_at, views_of, views_in, views, Caches, caches}
 use Rattle.cmc_rules.specs.Desks.{desk}
 use Rattle.cmc_rules.specs.Passes.{open_pass, is_pass_of}
 use Rattle.cmc_rules.specs.Memory.{past, no_past, with_begin, with_ending, ending_of}

@@ -7,7 +7,7 @@ use Rattle.cmc_objects.specs.declared.entry.Entry.{Entry}
 use Rattle.cmc_objects.specs.declared.entry.Positions.{Positions}
 use Rattle.cmc_objects.specs.declared.orders.Rules.{Rules}
 use Rattle.cmc_objects.specs.declared.role.Role.{Role}
-use Rattle.cmc_objects.specs.Watching.{kind_of_work}
+use Rattle.cmc_objects.specs.Informers.{kind_of_work}
 use Rattle.cmc_pass.specs.declared.pass.Views.{Views}
 use Rattle.cmc_queue.specs.declared.row.Found.TheVariants as found
 use Rattle.cmc_queue.specs.declared.row.Row.{Row}
@@ -16,9 +16,9 @@ use Rattle.cmc_queue.specs.Rows.{added, is_reached, moved}
 use Rattle.cmc_caches.specs.Affected.{is_among}
 use Rattle.cmc_model.specs.Histories.{Setting}
 use Rattle.cmc_rules.specs.declared.progress.Past.{Past}
-use Rattle.cmc_waking.specs.Feeding.{added_if, row_delivered}
+use Rattle.cmc_waking.specs.Feeds.{added_if, row_delivered}
 use Rattle.cmc_waking.specs.Queues.{queue_in, row_at, KeepsOthers, WakesSome}
-use Rattle.cmc_waking.specs.Waking.{IsRowKept, IsTended}
+use Rattle.cmc_waking.specs.WakeUps.{IsRowKept, IsTended}
 use Rattle.cmc_world.specs.Kept.{Seen, setting_of, on}
 use Rattle.cmc_plain.specs.Fed.{IsFed}
 use Rattle.cmc_plain.proofs.Moves.{fed_of, fed_one}

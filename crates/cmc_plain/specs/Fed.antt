@@ -4,7 +4,7 @@ use Rattle.cmc_meta.specs.declared.key.Key.{Key}
 use Rattle.cmc_meta.specs.declared.key.Kind.{Kind}
 use Rattle.cmc_objects.specs.declared.entry.Entry.{Entry}
 use Rattle.cmc_objects.specs.declared.role.Role.{Role}
-use Rattle.cmc_objects.specs.Watching.{has_informer, kind_of_work}
+use Rattle.cmc_objects.specs.Informers.{has_informer, kind_of_work}
 use Rattle.cmc_queue.specs.Queues.{has_room, row_of, ChangesRow, ChangesRows, Work}
 use Rattle.cmc_queue.specs.declared.row.Found.TheVariants as found
 use Rattle.cmc_queue.specs.declared.row.Row.{Row}
@@ -20,16 +20,16 @@ use Rattle.cmc_rules.specs.declared.progress.Ending.TheVariants as endings
 use Rattle.cmc_rules.specs.Memory.{ending_of, past}
 use Rattle.cmc_rules.specs.Passes.{is_pass_of, open_pass, IsWorking}
 use Rattle.cmc_rules.specs.Positions.{position, positions}
-use Rattle.cmc_rules.specs.Viewing.{views}
+use Rattle.cmc_rules.specs.Views.{views}
 use Rattle.cmc_caches.specs.Affected.{is_among}
 use Rattle.cmc_moves.specs.Answers.{AnswersDelivery, delivered, next_effect}
 use Rattle.cmc_moves.specs.declared.moves.Move.{Move}
 use Rattle.cmc_moves.specs.declared.moves.Move.TheVariants as moves
 use Rattle.cmc_moves.specs.declared.moves.Stepped.TheVariants.{Done}
-use Rattle.cmc_waking.specs.Feeding.{closed, started}
-use Rattle.cmc_waking.specs.Parking.{waits_for}
+use Rattle.cmc_waking.specs.Feeds.{closed, started}
+use Rattle.cmc_waking.specs.Parked.{waits_for}
 use Rattle.cmc_waking.specs.Queues.{queue_in, row_at, HasPlaceFor, KeepsOthers}
-use Rattle.cmc_waking.specs.Waking.{AreTended}
+use Rattle.cmc_waking.specs.WakeUps.{AreTended}
 use Rattle.cmc_plain.specs.declared.fed_passes.Closing.{Closing}
 use Rattle.cmc_plain.specs.declared.fed_scripts.Ahead.{Ahead}
 use Rattle.cmc_plain.specs.declared.fed_scripts.Ahead.TheVariants.{Same, Tick, Stop, Start}

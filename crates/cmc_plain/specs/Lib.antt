@@ -2,13 +2,13 @@ pub mod Plain
 pub mod PlainMoves
 pub mod Searches
 pub mod Histories
-pub mod Driving
+pub mod Turns
 pub mod Waits
 pub mod Named
-pub mod Asking
+pub mod Questions
 pub mod Next
 pub mod Openings
 pub mod DueMoments
 pub mod Fed
 pub mod Looks
-pub mod Keeping
+pub mod KeptLooks

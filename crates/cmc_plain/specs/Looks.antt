@@ -6,11 +6,11 @@ use Rattle.cmc_objects.specs.declared.entry.Entry.{Entry}
 use Rattle.cmc_model.specs.Histories.{Setting, moment}
 use Rattle.cmc_rules.specs.Memory.{past}
 use Rattle.cmc_rules.specs.Positions.{positions}
-use Rattle.cmc_rules.specs.Resting.{IsIdle}
-use Rattle.cmc_rules.specs.Viewing.{views}
+use Rattle.cmc_rules.specs.Rest.{IsIdle}
+use Rattle.cmc_rules.specs.Views.{views}
 use Rattle.cmc_moves.specs.Quiet.{seen_last, IsQuiet}
-use Rattle.cmc_waking.specs.Waking.{IsBarredBy, IsDueNow, IsTimed}
-use Rattle.cmc_plain.specs.Keeping.{IsCurrent, IsMine}
+use Rattle.cmc_waking.specs.WakeUps.{IsBarredBy, IsDueNow, IsTimed}
+use Rattle.cmc_plain.specs.KeptLooks.{IsCurrent, IsMine}
 use Rattle.cmc_plain.specs.declared.looks.Look.{Look}
 use Rattle.cmc_plain.specs.declared.looks.Look.TheVariants.{Busy, Idle, Quiet, Held}
 use Rattle.cmc_plain.specs.declared.openings.Opening.{Opening}

@@ -10,15 +10,15 @@ use Rattle.cmc_objects.specs.Roles.{role_rank}
 use Rattle.cmc_rules.specs.declared.progress.OpenPass.{OpenPass}
 use Rattle.cmc_model.specs.Histories.{Setting, runs, moment, incarnation}
 use Rattle.cmc_model.specs.Writes.{writes, last_of_kind, is_known}
-use Rattle.cmc_objects.specs.Watching.{kind_of_work, has_informer}
+use Rattle.cmc_objects.specs.Informers.{kind_of_work, has_informer}
 use Rattle.cmc_rules.specs.Positions.{position, positions}
-use Rattle.cmc_rules.specs.Viewing.{views}
+use Rattle.cmc_rules.specs.Views.{views}
 use Rattle.cmc_rules.specs.Passes.{open_pass, IsWorking}
 use Rattle.cmc_rules.specs.Memory.{past}
 use Rattle.cmc_rules.specs.Sameness.{IsDue}
 use Rattle.cmc_rules.specs.Legality.{IsOpen}
-use Rattle.cmc_rules.specs.Scripting.{scripted, step_at, held}
-use Rattle.cmc_rules.specs.Following.{IsReady}
+use Rattle.cmc_rules.specs.Scripts.{scripted, step_at, held}
+use Rattle.cmc_rules.specs.UserSteps.{IsReady}
 use Rattle.cmc_rules.specs.Runs.{IsFinished}
 use Rattle.cmc_moves.specs.Quiet.{IsQuiet}
 use Rattle.cmc_moves.specs.declared.moves.Move.{Move}

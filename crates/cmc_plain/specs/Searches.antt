@@ -9,20 +9,20 @@ use Rattle.cmc_objects.specs.Roles.{role_rank}
 use Rattle.cmc_objects.specs.declared.role.Role.{Role}
 use Rattle.cmc_objects.specs.declared.entry.Entry.{Entry}
 use Rattle.cmc_objects.specs.declared.entry.Step.{Step}
-use Rattle.cmc_rules.specs.Following.{IsReady}
+use Rattle.cmc_rules.specs.UserSteps.{IsReady}
 use Rattle.cmc_model.specs.Histories.{Setting, moment, runs}
 use Rattle.cmc_model.specs.Writes.{last_of_kind, writes}
-use Rattle.cmc_objects.specs.Watching.{kind_of_work}
+use Rattle.cmc_objects.specs.Informers.{kind_of_work}
 use Rattle.cmc_moves.specs.declared.moves.Stepped.{Stepped}
 use Rattle.cmc_moves.specs.declared.moves.Stepped.TheVariants.{Done, Spent}
-use Rattle.cmc_rules.specs.Resting.{RestsOnKnown, IsAtRest}
+use Rattle.cmc_rules.specs.Rest.{RestsOnKnown, IsAtRest}
 use Rattle.cmc_rules.specs.Passes.{open_pass, IsWorking}
 use Rattle.cmc_plain.specs.declared.passes.Going.{Going}
 use Rattle.cmc_plain.specs.declared.deliveries.Delivery.{Delivery}
 use Rattle.cmc_plain.specs.declared.deliveries.Newest.{Newest}
 use Rattle.cmc_plain.specs.declared.begins.Beginning.{Beginning}
-use Rattle.cmc_rules.specs.Resting.{IsIdle}
-use Rattle.cmc_rules.specs.Viewing.{views}
+use Rattle.cmc_rules.specs.Rest.{IsIdle}
+use Rattle.cmc_rules.specs.Views.{views}
 use Rattle.cmc_rules.specs.Acts.{act}
 use Rattle.cmc_rules.specs.Desks.{desk}
 use Rattle.cmc_pass.specs.declared.pass.Act.{Act}

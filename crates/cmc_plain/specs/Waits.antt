@@ -26,11 +26,11 @@ use Rattle.cmc_match.specs.Revisions.{next_request}
 use Rattle.cmc_model.specs.Histories.{Setting, moment, objects, runs}
 use Rattle.cmc_model.specs.Writes.{writes}
 use Rattle.cmc_model.specs.Summaries.{is_certificate, is_secret, is_ready, is_waiting}
-use Rattle.cmc_objects.specs.Watching.{has_informer}
-use Rattle.cmc_rules.specs.Scripting.{held}
-use Rattle.cmc_rules.specs.Triggering.{is_issuing, is_backing_off}
-use Rattle.cmc_rules.specs.Issuing.{says_issued, is_kept_for_keys}
-use Rattle.cmc_rules.specs.Viewing.{Caches, present_views}
+use Rattle.cmc_objects.specs.Informers.{has_informer}
+use Rattle.cmc_rules.specs.Scripts.{held}
+use Rattle.cmc_rules.specs.Trigger.{is_issuing, is_backing_off}
+use Rattle.cmc_rules.specs.Issuance.{says_issued, is_kept_for_keys}
+use Rattle.cmc_rules.specs.Views.{Caches, present_views}
 use Rattle.cmc_caches.specs.Told.{caches_at}
 use Rattle.cmc_moves.specs.declared.moves.Stepped.{Stepped}
 use Rattle.cmc_moves.specs.declared.moves.Stepped.TheVariants.{NotNow}

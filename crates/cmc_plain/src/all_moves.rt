@@ -1,9 +1,9 @@
 //! Moves one after another.
 ghost use Rattle.std.specs.Prelude.{◌≡◌, IfOk, OnErr};
-ghost use Rattle.cmc_pass.specs.Giving.{order_of, value_of};
+ghost use Rattle.cmc_pass.specs.GivenValues.{order_of, value_of};
 ghost use Rattle.cmc_pass.specs.Values.{IsValue};
 ghost use Rattle.cmc_world.specs.Kept.{on, setting_of};
-ghost use Rattle.cmc_world.specs.Leading.{IsRight, IsStep, Lead, LeadsSome};
+ghost use Rattle.cmc_world.specs.Leads.{IsRight, IsStep, Lead, LeadsSome};
 
 use cmc_pass::Given;
 use cmc_world::{Move, World};

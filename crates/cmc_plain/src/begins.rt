@@ -6,7 +6,7 @@ ghost use Rattle.cmc_queue.specs.Rows.{is_free};
 ghost use Rattle.cmc_waking.specs.Queues.{row_at};
 ghost use Rattle.cmc_world.specs.Kept.{on};
 ghost use Rattle.cmc_plain.specs.Fed.{IsFed};
-ghost use Rattle.cmc_plain.specs.Keeping.{IsKeptRight};
+ghost use Rattle.cmc_plain.specs.KeptLooks.{IsKeptRight};
 ghost use Rattle.cmc_plain.specs.Searches.{FindsBegin, FindsKey};
 
 use crate::kept::Kept;

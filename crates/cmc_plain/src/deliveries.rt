@@ -3,7 +3,7 @@ ghost use Rattle.std.specs.Prelude.{◌≡◌, ◌↔◌, IsTrue, false};
 ghost use Rattle.cmc_model.specs.Writes.{last_of_kind, writes};
 ghost use Rattle.cmc_rules.specs.Positions.{positions};
 ghost use Rattle.cmc_world.specs.Kept.{on};
-ghost use Rattle.cmc_plain.specs.Keeping.{IsKeptRight};
+ghost use Rattle.cmc_plain.specs.KeptLooks.{IsKeptRight};
 ghost use Rattle.cmc_plain.specs.Plain.{IsBehind};
 ghost use Rattle.cmc_plain.specs.Searches.{FindsKind, FindsDelivery, HasNoneBefore, IsBehindInSome, IsNewest};
 

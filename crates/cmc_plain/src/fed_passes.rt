@@ -8,7 +8,7 @@ ghost use Rattle.cmc_rules.specs.Runs.{IsRun};
 ghost use Rattle.cmc_moves.specs.Answers.{Answers, AnswersGoing, Leaves, asked_by};
 ghost use Rattle.cmc_moves.specs.Prospects.{IsFirstAct};
 ghost use Rattle.cmc_moves.specs.declared.moves.Move.TheVariants as moves;
-ghost use Rattle.cmc_waking.specs.Parking.{waits_for};
+ghost use Rattle.cmc_waking.specs.Parked.{waits_for};
 ghost use Rattle.cmc_waking.specs.Queues.{row_at};
 ghost use Rattle.cmc_world.specs.Kept.{on};
 ghost use Rattle.cmc_plain.specs.Fed.{HasRoomsToEnd, HasRow, IsClosingIfOpen, IsFed, IsGoing, IsToClose, IsWrote};

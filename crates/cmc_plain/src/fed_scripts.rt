@@ -1,9 +1,9 @@
 //! A step of the script is made, and changes the work queues: by a tick, a stop or a start.
 ghost use Rattle.std.specs.Prelude.{◌≡◌, ◌+◌, ◌++◌, ◌∷◌, [], IfOk, OnOk, OnErr, Some, true};
-ghost use Rattle.cmc_objects.specs.Watching.{kind_of_work};
-ghost use Rattle.cmc_rules.specs.Following.{IsReady};
+ghost use Rattle.cmc_objects.specs.Informers.{kind_of_work};
+ghost use Rattle.cmc_rules.specs.UserSteps.{IsReady};
 ghost use Rattle.cmc_rules.specs.Runs.{IsRun};
-ghost use Rattle.cmc_rules.specs.Scripting.{scripted, step_at};
+ghost use Rattle.cmc_rules.specs.Scripts.{scripted, step_at};
 ghost use Rattle.cmc_moves.specs.Answers.{Answers, Leaves};
 ghost use Rattle.cmc_moves.specs.declared.moves.Move.TheVariants as moves;
 ghost use Rattle.cmc_setup.specs.Setups.{IsSetup};

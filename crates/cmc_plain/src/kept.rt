@@ -5,7 +5,7 @@ ghost use Rattle.cmc_objects.specs.declared.entry.Entry.{Entry};
 ghost use Rattle.cmc_model.specs.Histories.{Setting};
 ghost use Rattle.cmc_pass.specs.declared.pass.Act.TheVariants as acts;
 ghost use Rattle.cmc_moves.specs.Answers.{told_order};
-ghost use Rattle.cmc_plain.specs.Keeping.{AreCurrent, IsCurrent, IsMine};
+ghost use Rattle.cmc_plain.specs.KeptLooks.{AreCurrent, IsCurrent, IsMine};
 
 use crate::openings::Opening;
 use cmc_meta::Key;

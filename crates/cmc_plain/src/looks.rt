@@ -8,14 +8,14 @@ ghost use Rattle.cmc_queue.specs.Queues.{fresh_count};
 ghost use Rattle.cmc_queue.specs.Rows.{is_fresh};
 ghost use Rattle.cmc_rules.specs.Memory.{past};
 ghost use Rattle.cmc_rules.specs.Positions.{positions};
-ghost use Rattle.cmc_rules.specs.Resting.{IsIdle};
+ghost use Rattle.cmc_rules.specs.Rest.{IsIdle};
 ghost use Rattle.cmc_rules.specs.Sameness.{IsDue, own_above};
-ghost use Rattle.cmc_rules.specs.Viewing.{views};
+ghost use Rattle.cmc_rules.specs.Views.{views};
 ghost use Rattle.cmc_waking.specs.Queues.{queue_in, row_at};
 ghost use Rattle.cmc_world.specs.Kept.{on};
 ghost use Rattle.cmc_plain.specs.DueMoments.{HasDatedMoments};
 ghost use Rattle.cmc_plain.specs.Fed.{IsFed};
-ghost use Rattle.cmc_plain.specs.Keeping.{IsKeptRight};
+ghost use Rattle.cmc_plain.specs.KeptLooks.{IsKeptRight};
 ghost use Rattle.cmc_plain.specs.Looks.{IsLook};
 ghost use Rattle.cmc_plain.specs.Searches.{IsFree, IsWorkOn};
 

@@ -5,7 +5,7 @@ ghost use Rattle.cmc_plain.specs.declared.plain_move.PlainMove.TheVariants.{Scri
 ghost use Rattle.cmc_plain.specs.Plain.{HasNoDelivery, HasNoPass, IsPlainMove};
 ghost use Rattle.cmc_plain.specs.PlainMoves.{IsNextPlain};
 ghost use Rattle.cmc_plain.specs.Fed.{IsFed};
-ghost use Rattle.cmc_plain.specs.Keeping.{IsKeptRight};
+ghost use Rattle.cmc_plain.specs.KeptLooks.{IsKeptRight};
 ghost use Rattle.cmc_plain.specs.Searches.{IsLeft};
 
 use crate::begins::{Beginning, first_begin};

@@ -5,7 +5,7 @@ ghost use Rattle.cmc_rules.specs.Runs.{IsRun};
 ghost use Rattle.cmc_moves.specs.Prospects.{IsFirstAct};
 ghost use Rattle.cmc_world.specs.Kept.{on};
 ghost use Rattle.cmc_plain.specs.Fed.{IsFed};
-ghost use Rattle.cmc_plain.specs.Keeping.{IsMine};
+ghost use Rattle.cmc_plain.specs.KeptLooks.{IsMine};
 ghost use Rattle.cmc_plain.specs.Openings.{LeavesNext, LeavesOpened};
 ghost use Rattle.cmc_plain.specs.Searches.{IsWork};
 

@@ -3,8 +3,8 @@ ghost use Rattle.std.specs.Prelude.{◌≡◌, IfOk, reverse};
 ghost use Rattle.cmc_rules.specs.Passes.{open_pass};
 ghost use Rattle.cmc_moves.specs.Answers.{kept_at, kept_of};
 ghost use Rattle.cmc_world.specs.Kept.{on};
-ghost use Rattle.cmc_plain.specs.Asking.{asks, ask_number, work_of};
-ghost use Rattle.cmc_plain.specs.Driving.{CanBeKept};
+ghost use Rattle.cmc_plain.specs.Questions.{asks, ask_number, work_of};
+ghost use Rattle.cmc_plain.specs.Turns.{CanBeKept};
 
 use crate::gate::{Point, Work};
 use cmc_history::History;

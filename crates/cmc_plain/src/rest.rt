@@ -1,11 +1,11 @@
 //! Whether all is at rest, by the work queues.
 ghost use Rattle.std.specs.Prelude.{◌≡◌, ◌↔◌, IsTrue, IfOk, true};
 ghost use Rattle.cmc_objects.specs.declared.role.Role.{Role as RoleValue};
-ghost use Rattle.cmc_rules.specs.Resting.{IsAtRest};
+ghost use Rattle.cmc_rules.specs.Rest.{IsAtRest};
 ghost use Rattle.cmc_rules.specs.Runs.{IsFinished};
 ghost use Rattle.cmc_world.specs.Kept.{on};
 ghost use Rattle.cmc_plain.specs.Fed.{IsFed};
-ghost use Rattle.cmc_plain.specs.Keeping.{IsKeptRight};
+ghost use Rattle.cmc_plain.specs.KeptLooks.{IsKeptRight};
 ghost use Rattle.cmc_plain.specs.Plain.{HasNoDelivery, HasNoPass, IsStepReady};
 ghost use Rattle.cmc_plain.specs.Searches.{RestsWhereRunning};
 

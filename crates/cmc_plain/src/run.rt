@@ -1,14 +1,14 @@
 //! A run by one hand, from its beginning on or from where others left it.
 ghost use Rattle.std.specs.Prelude.{◌≡◌, IfOk, Some};
-ghost use Rattle.cmc_pass.specs.Giving.{order_of};
+ghost use Rattle.cmc_pass.specs.GivenValues.{order_of};
 ghost use Rattle.cmc_rules.specs.Passes.{open_pass};
 ghost use Rattle.cmc_moves.specs.Answers.{kept_of};
 ghost use Rattle.cmc_moves.specs.declared.moves.Move.TheVariants as moves;
 ghost use Rattle.cmc_world.specs.Kept.{on};
 ghost use Rattle.cmc_plain.specs.Plain.{IsPlainMove};
 ghost use Rattle.cmc_plain.specs.PlainMoves.{move_of};
-ghost use Rattle.cmc_plain.specs.Driving as spec;
-ghost use Rattle.cmc_plain.specs.Driving.{IsMadeFor, IsTurn, IsDrained, IsDriven};
+ghost use Rattle.cmc_plain.specs.Turns as spec;
+ghost use Rattle.cmc_plain.specs.Turns.{IsMadeFor, IsTurn, IsDrained, IsDriven};
 
 use crate::gate::Gate;
 use crate::passes::Going;

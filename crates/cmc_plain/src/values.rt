@@ -1,10 +1,10 @@
 //! Values for the questions of passes.
 ghost use Rattle.std.specs.Prelude.{◌≡◌, IfOk, option_map};
-ghost use Rattle.cmc_pass.specs.Giving.{order_of};
+ghost use Rattle.cmc_pass.specs.GivenValues.{order_of};
 ghost use Rattle.cmc_rules.specs.Passes.{open_pass};
 ghost use Rattle.cmc_moves.specs.Answers.{kept_of};
 ghost use Rattle.cmc_world.specs.Kept.{on};
-ghost use Rattle.cmc_plain.specs.Driving.{CanBeMade};
+ghost use Rattle.cmc_plain.specs.Turns.{CanBeMade};
 
 use crate::gate::Gate;
 use crate::questions::{point_of, question};

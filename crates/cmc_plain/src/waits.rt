@@ -5,9 +5,9 @@ ghost use Rattle.std.specs.Prelude.{◌≡◌, false, IfOk};
 ghost use Rattle.cmc_model.specs.Histories as histories;
 ghost use Rattle.cmc_objects.specs.declared.role.Role.TheVariants.{Issuing};
 ghost use Rattle.cmc_rules.specs.Dates.{HasDatedFailure, IsDatedOption};
-ghost use Rattle.cmc_rules.specs.Issuing as issuing;
-ghost use Rattle.cmc_rules.specs.Triggering as triggering;
-ghost use Rattle.cmc_rules.specs.Viewing as viewing;
+ghost use Rattle.cmc_rules.specs.Issuance as issuing;
+ghost use Rattle.cmc_rules.specs.Trigger as triggering;
+ghost use Rattle.cmc_rules.specs.Views as viewing;
 ghost use Rattle.cmc_world.specs.Kept.{on};
 ghost use Rattle.cmc_plain.specs.Waits as words;
 

@@ -5,7 +5,7 @@
 ghost use Rattle.std.specs.Option.{option_copied};
 ghost use Rattle.std.specs.Prelude.{◌≡◌, ◌↔◌, IsTrue, IfOk, OnErr, [], true};
 ghost use Rattle.cmc_meta.specs.declared.key.Key.{Key as KeyValue};
-ghost use Rattle.cmc_objects.specs.Watching.{kind_of_work};
+ghost use Rattle.cmc_objects.specs.Informers.{kind_of_work};
 ghost use Rattle.cmc_model.specs.Histories.{runs};
 ghost use Rattle.cmc_queue.specs.Queues.{row_of};
 ghost use Rattle.cmc_queue.specs.Rows.{no_row};
@@ -13,7 +13,7 @@ ghost use Rattle.cmc_rules.specs.Passes.{IsWorking};
 ghost use Rattle.cmc_rules.specs.Runs.{IsRun, IsFinished};
 ghost use Rattle.cmc_moves.specs.Answers.{Answers, Leaves};
 ghost use Rattle.cmc_moves.specs.declared.moves.Move.TheVariants as moves;
-ghost use Rattle.cmc_waking.specs.Waking.{IsSearched, LosesNoWakeUp};
+ghost use Rattle.cmc_waking.specs.WakeUps.{IsSearched, LosesNoWakeUp};
 ghost use Rattle.cmc_world.specs.Kept.{on};
 ghost use Rattle.cmc_plain.specs.Next.{IsNextDelivery, IsNextDeliveryTo, IsNextScript};
 ghost use Rattle.cmc_plain.specs.Openings.{LeavesOpened};
@@ -68,7 +68,7 @@ impl Drop for Waking {
 impl Model for Waking {
     ghost use Rattle.cmc_world.specs.Kept.{Seen, on};
     ghost use Rattle.cmc_plain.specs.Fed.{IsFed};
-    ghost use Rattle.cmc_plain.specs.Keeping.{IsKeptRight};
+    ghost use Rattle.cmc_plain.specs.KeptLooks.{IsKeptRight};
 
     ghost Value = { Seen };
 

@@ -6,7 +6,7 @@ ghost use Rattle.std.specs.Option.{option_copied};
 ghost use Rattle.std.specs.Prelude.{◌≡◌, IfOk};
 ghost use Rattle.cmc_world.specs.Kept.{on};
 ghost use Rattle.cmc_plain.specs.Fed.{IsFed};
-ghost use Rattle.cmc_plain.specs.Keeping.{IsKeptRight};
+ghost use Rattle.cmc_plain.specs.KeptLooks.{IsKeptRight};
 ghost use Rattle.cmc_plain.specs.Searches.{FindsWork, HasWork, IsWork};
 
 use crate::fed_begins::dated_views;

@@ -3,7 +3,7 @@ use Rattle.std.proofs.Common.{◌≡◌, ℕ, ◌==◌, ◌⊎◌, inl, inr, Boo
 use Rattle.std.specs.Bool.{Decides}
 use Rattle.std.specs.List.{list_any}
 use Rattle.std.proofs.lemmas.Bool.Decides.{Decides-eqb, Decides-or, Decides-and}
-use Rattle.cmc_policy_rules.specs.Matching.{star, EndsWith, StandsFor, MatchesPattern, ends_of, is_begun, is_match}
+use Rattle.cmc_policy_rules.specs.Patterns.{star, EndsWith, StandsFor, MatchesPattern, ends_of, is_begun, is_match}
 
 moved : {P Q : Type 0} (b : Bool) → Decides b P → (P → Q) → (Q → P) → Decides b Q
 moved b decides there back = ((λ e. there (decides.0 e)), (λ q. decides.1 (back q)))

@@ -14,8 +14,8 @@ use Rattle.cmc_policy_rules.specs.declared.decision.Decision.TheVariants.{Yes, N
 use Rattle.cmc_policy_rules.specs.declared.decision.Field.{Field}
 use Rattle.cmc_policy_rules.specs.declared.policy.Policy.{Policy}
 use Rattle.cmc_policy_rules.specs.declared.wanted.Wanted.{Wanted}
-use Rattle.cmc_policy_rules.specs.Allowing.{refused_field}
-use Rattle.cmc_policy_rules.specs.Deciding.{is_bound, is_allowed_by, decision}
+use Rattle.cmc_policy_rules.specs.Allowed.{refused_field}
+use Rattle.cmc_policy_rules.specs.Decisions.{is_bound, is_allowed_by, decision}
 
 cond_some : (b : Bool) (n i : ℕ) → cond b (Some n) None ≡ Some i → n ≡ i
 cond_some true n i e = cc

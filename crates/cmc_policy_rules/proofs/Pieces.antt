@@ -1,7 +1,7 @@
 -- A pattern by its pieces: each stands for itself, and of the places of a piece the leftmost serves.
 use Rattle.std.proofs.Common.{◌≡◌, ℕ, suc, ◌==◌, Bool, false, List, [], ◌∷◌, ◌++◌, refl, sym, ◌∙◌, ap, subst, append_assoc, arith, ◌↔◌}
 use Rattle.std.proofs.lemmas.List.{append_cancel_left}
-use Rattle.cmc_policy_rules.specs.Matching.{star, EndsWith, StandsFor, MatchesPattern, IsStarless, IsCutAtStar, IsFirstPlace, OccursNowhere}
+use Rattle.cmc_policy_rules.specs.Patterns.{star, EndsWith, StandsFor, MatchesPattern, IsStarless, IsCutAtStar, IsFirstPlace, OccursNowhere}
 
 first_starless : (byte : ℕ) (piece : List ℕ) → IsStarless (byte ∷ piece) → (byte == star) ≡ false
 first_starless byte piece starless = starless 0 0 (omega arith)

@@ -1,7 +1,7 @@
 -- The places of a piece in a text, from the left.
 use Rattle.std.proofs.Common.{◌≡◌, ℕ, ◌+◌, ◌-◌, ◌<◌, List, [], ◌∷◌, ◌++◌, length, take, drop, refl, sym, ◌∙◌, ap, subst, append_assoc, arith, length-append}
 use Rattle.std.proofs.lemmas.List.{take-append-drop, take_rest, drop_at, drop-drop}
-use Rattle.cmc_policy_rules.specs.Matching.{EndsWith, IsFirstPlace, OccursNowhere}
+use Rattle.cmc_policy_rules.specs.Patterns.{EndsWith, IsFirstPlace, OccursNowhere}
 use Rattle.cmc_policy_rules.proofs.Pieces.{ends_further}
 
 -- two places of a piece in one text, the first at its front

@@ -1,3 +1,3 @@
-pub mod Matching
-pub mod Allowing
-pub mod Deciding
+pub mod Patterns
+pub mod Allowed
+pub mod Decisions

@@ -1,6 +1,6 @@
 //! What one policy allows.
 ghost use Rattle.std.specs.Prelude.{◌≡◌, Some, None, MatchResult};
-ghost use Rattle.cmc_policy_rules.specs.Allowing as spec;
+ghost use Rattle.cmc_policy_rules.specs.Allowed as spec;
 
 use crate::decision::Field;
 use crate::names::{allows_addresses, allows_name, allows_names, has_each};

@@ -1,6 +1,6 @@
 //! What a list of policies decides.
 ghost use Rattle.std.specs.Prelude.{◌≡◌, position};
-ghost use Rattle.cmc_policy_rules.specs.Deciding as spec;
+ghost use Rattle.cmc_policy_rules.specs.Decisions as spec;
 
 use crate::allowing::allows;
 use crate::decision::Decision;

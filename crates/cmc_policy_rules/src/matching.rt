@@ -1,6 +1,6 @@
 //! Patterns in which `*` stands for any bytes.
 ghost use Rattle.std.specs.Prelude.{◌≡◌, ◌↔◌, ◌∷◌, IsTrue, MatchOption};
-ghost use Rattle.cmc_policy_rules.specs.Matching.{star, MatchesPattern, is_match, IsStarless, IsCutAtStar, IsFirstPlace, OccursNowhere};
+ghost use Rattle.cmc_policy_rules.specs.Patterns.{star, MatchesPattern, is_match, IsStarless, IsCutAtStar, IsFirstPlace, OccursNowhere};
 
 /// Whether the text matches the pattern: each `*` stands for any bytes, also for none, and each other byte for
 /// itself (approver-policy: `*` is the only wildcard). It takes time in proportion to the product of both

@@ -3,7 +3,7 @@ ghost use Rattle.std.specs.Prelude.{◌≡◌};
 ghost use Rattle.std.specs.List.{list_all};
 ghost use Rattle.std.specs.Option.{option_to_list};
 ghost use Rattle.std.specs.Str.{bytes_eq};
-ghost use Rattle.cmc_policy_rules.specs.Allowing as spec;
+ghost use Rattle.cmc_policy_rules.specs.Allowed as spec;
 
 use crate::matching::matches;
 use crate::pattern::Pattern;

@@ -11,7 +11,7 @@ use Rattle.cmc_objects.specs.declared.entry.Entry.TheVariants.{Call as Called}
 use Rattle.cmc_print.specs.Trees.{natural, line_of}
 use Rattle.cmc_print.specs.Printed.{object_tree}
 use Rattle.cmc_report.specs.Trees.{lone, ok_members, conflict_tree, reply_tree, call_key, call_name, who_tree, put_written, put_version, put_call, call_tree, entry_tree}
-use Rattle.cmc_writer.specs.Adding.{Row, with_value, with_row, with_rows}
+use Rattle.cmc_writer.specs.Additions.{Row, with_value, with_row, with_rows}
 use Rattle.cmc_writer.proofs.Placed.{placed, has_place, IsBuilt, is_none, is_put}
 use Rattle.cmc_writer.proofs.Written.{object_written, text_written}
 use Rattle.cmc_object_lines.proofs.Laws.{of_rows}

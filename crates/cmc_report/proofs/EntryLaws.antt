@@ -14,7 +14,7 @@ use Rattle.cmc_print.specs.Words.{role_name}
 use Rattle.cmc_report.specs.Trees.{answer_tree, cause_tree, entry_tree, order_tree, positions_tree, put_begin, put_told, who_tree}
 use Rattle.cmc_report.specs.Rows.{begin_head, begin_tail, call_rows, position_rows, told_head, told_tail, told_tree}
 use Rattle.cmc_report.proofs.CallLaws.{entry_of_call}
-use Rattle.cmc_writer.specs.Adding.{Row, with_value, with_rows}
+use Rattle.cmc_writer.specs.Additions.{Row, with_value, with_rows}
 use Rattle.cmc_writer.proofs.Written.{object_written}
 
 abbrev word : List ℕ → Row

@@ -12,7 +12,7 @@ use Rattle.cmc_print.specs.Puts.{base64_text}
 use Rattle.cmc_print.specs.Words.{name_text}
 use Rattle.cmc_report.specs.Trees.{key_order_tree, csr_order_tree, sign_order_tree, judge_order_tree, issued_tree}
 use Rattle.cmc_report.specs.Rows.{failed_tree, issued_rows, pending_tree}
-use Rattle.cmc_writer.specs.Adding.{Row, with_value, with_rows}
+use Rattle.cmc_writer.specs.Additions.{Row, with_value, with_rows}
 use Rattle.cmc_writer.proofs.Placed.{is_none, is_put}
 use Rattle.cmc_object_lines.proofs.Laws.{of_rows}
 use Rattle.cmc_object_lines.proofs.Slots.{is_list}

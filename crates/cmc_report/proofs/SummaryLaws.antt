@@ -10,7 +10,7 @@ use Rattle.cmc_print.specs.Trees.{line_of}
 use Rattle.cmc_print.specs.Words.{name_text}
 use Rattle.cmc_report.specs.Trees.{scenario_line_tree, wait_name, waiting_tree, counts_tree, summary_tree}
 use Rattle.cmc_report.specs.Rows.{count_rows}
-use Rattle.cmc_writer.specs.Adding.{with_value, with_rows}
+use Rattle.cmc_writer.specs.Additions.{with_value, with_rows}
 use Rattle.cmc_writer.proofs.Placed.{is_none, is_put}
 use Rattle.cmc_writer.proofs.Written.{object_written}
 use Rattle.cmc_object_lines.proofs.Laws.{of_rows}

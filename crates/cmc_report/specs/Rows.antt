@@ -16,7 +16,7 @@ use Rattle.cmc_print.specs.Puts.{base64_text}
 use Rattle.cmc_print.specs.Printed.{object_tree, moment_tree}
 use Rattle.cmc_print.specs.Words.{kind_name, name_text, role_name}
 use Rattle.cmc_report.specs.Trees.{call_name, call_key, reply_tree, positions_tree, put_told, waiting_tree}
-use Rattle.cmc_writer.specs.Adding.{Row}
+use Rattle.cmc_writer.specs.Additions.{Row}
 use Rattle.cmc_writer.specs.Rows.{list_row}
 
 abbrev pub written_row : Call → Option Data

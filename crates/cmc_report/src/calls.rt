@@ -9,7 +9,7 @@ ghost use Rattle.cmc_print.specs.Words.{key_text};
 ghost use Rattle.cmc_report.specs.Trees.{lone, ok_members, conflict_tree, reply_tree, who_tree, call_key, call_name, call_tree, entry_tree};
 ghost use Rattle.cmc_report.specs.Rows as spec;
 ghost use Rattle.cmc_report.specs.Rows.{ok_rows, call_body, call_head};
-ghost use Rattle.cmc_writer.specs.Adding.{with_value, with_row, with_rows};
+ghost use Rattle.cmc_writer.specs.Additions.{with_value, with_row, with_rows};
 
 use cmc_meta::{Key, Name};
 use cmc_object_lines::write_object;
@@ -103,7 +103,7 @@ fn write_conflict(printer: &mut Printer, named: u64, have: u64) -> Result<(), Al
     printer.end_object()
 }
 
-#[tactic(auto, unfolding(cmc_writer::specs::Adding::with_row))]
+#[tactic(auto, unfolding(cmc_writer::specs::Additions::with_row))]
 fn name_row(printer: &mut Printer, call: &Call, name: &Name) -> Result<(), AllocError>
     ensures { OnOk result (printer.new ≡ with_row printer.old (codes "name") (spec.name_row call.now name.now)) }
 {
@@ -179,7 +179,7 @@ fn object_row(printer: &mut Printer, alloc: Global, object: &Object) -> Result<(
     write_object(printer, alloc, object)
 }
 
-#[tactic(auto, unfolding(cmc_writer::specs::Adding::with_row))]
+#[tactic(auto, unfolding(cmc_writer::specs::Additions::with_row))]
 fn written_row(printer: &mut Printer, alloc: Global, call: &Call) -> Result<(), AllocError>
     ensures { OnOk result (printer.new ≡ with_row printer.old (codes "object") (spec.written_row call.now)) }
 {
@@ -194,7 +194,7 @@ fn written_row(printer: &mut Printer, alloc: Global, call: &Call) -> Result<(), 
     }
 }
 
-#[tactic(auto, unfolding(cmc_writer::specs::Adding::with_row))]
+#[tactic(auto, unfolding(cmc_writer::specs::Additions::with_row))]
 fn version_row(printer: &mut Printer, call: &Call) -> Result<(), AllocError>
     ensures { OnOk result (printer.new ≡ with_row printer.old (codes "version") (spec.version_row call.now)) }
 {

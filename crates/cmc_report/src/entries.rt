@@ -6,7 +6,7 @@ ghost use Rattle.cmc_print.specs.Trees.{line_of};
 ghost use Rattle.cmc_print.specs.Words.{name_text};
 ghost use Rattle.cmc_report.specs.Trees.{cause_tree, entry_tree, positions_tree};
 ghost use Rattle.cmc_report.specs.Rows.{begin_head, begin_tail, position_rows, told_head, told_tail, told_tree};
-ghost use Rattle.cmc_writer.specs.Adding.{with_value, with_row, with_rows};
+ghost use Rattle.cmc_writer.specs.Additions.{with_value, with_row, with_rows};
 
 use crate::calls::{write_call, write_lone};
 use crate::orders::{answer_row, order_row, write_name};

@@ -4,7 +4,7 @@ ghost use Rattle.serde_json.specs.Data.{string};
 ghost use Rattle.cmc_print.specs.Words.{name_text};
 ghost use Rattle.cmc_report.specs.Trees.{key_order_tree, csr_order_tree, sign_order_tree, judge_order_tree, order_tree, issued_tree, answer_tree};
 ghost use Rattle.cmc_report.specs.Rows.{failed_tree, issued_rows, pending_tree};
-ghost use Rattle.cmc_writer.specs.Adding.{with_value, with_row, with_rows};
+ghost use Rattle.cmc_writer.specs.Additions.{with_value, with_row, with_rows};
 
 use cmc_meta::{Key, ObjectMeta};
 use cmc_object_lines::{bytes_row, some_bytes_row};

@@ -6,7 +6,7 @@ ghost use Rattle.serde_json.specs.Written.{has_float};
 ghost use Rattle.cmc_print.specs.Trees.{line_of};
 ghost use Rattle.cmc_print.specs.Words.{name_text};
 ghost use Rattle.cmc_report.specs.Trees.{scenario_line_tree, wait_name, waiting_tree, counts_tree, summary_tree};
-ghost use Rattle.cmc_writer.specs.Adding.{with_value, with_values, with_row, with_rows};
+ghost use Rattle.cmc_writer.specs.Additions.{with_value, with_values, with_row, with_rows};
 ghost use Rattle.cmc_report.specs.Rows.{count_rows};
 
 use crate::orders::certificate_row;

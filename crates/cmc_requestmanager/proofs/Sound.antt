@@ -2,7 +2,7 @@
 use Rattle.std.proofs.Common.{◌≡◌, refl}
 use Rattle.cmc_objects.specs.declared.role.Role.TheVariants.{RequestManager}
 use Rattle.cmc_pass.specs.declared.pass.Views.{Views}
-use Rattle.cmc_rules.specs.RequestManaging.{request_manager, request_after}
+use Rattle.cmc_rules.specs.RequestManager.{request_manager, request_after}
 use Rattle.cmc_rules.specs.Sound.{views_shown, IsSoundTable}
 use Rattle.cmc_requestmanager.proofs.Table.{within, none}
 

@@ -18,12 +18,12 @@ use Rattle.cmc_pass.specs.declared.pass.Act.TheVariants.{Nothing}
 use Rattle.cmc_pass.specs.declared.value.Value.{Value}
 use Rattle.cmc_pass.specs.declared.value.Value.TheVariants.{Made, Signed, Answered, Judged}
 use Rattle.cmc_pass.specs.Values.{IsValue}
-use Rattle.cmc_rules.specs.Triggering.{is_issuing}
-use Rattle.cmc_rules.specs.Revising.{delete_of}
+use Rattle.cmc_rules.specs.Trigger.{is_issuing}
+use Rattle.cmc_rules.specs.RevisionManager.{delete_of}
 use Rattle.cmc_rules.specs.NextKeys.{named_key}
 use Rattle.cmc_rules.specs.NextRequests.{is_next, next_requests}
-use Rattle.cmc_rules.specs.RequestManaging.{body_of, ask_signature, make_request, is_stale, stale_request, ask_with, by_count, by_stale, with_request_file, with_key, request_of, request_manager, signed_by, signed_in, signed_with, signed_for, request_after}
-use Rattle.cmc_rules.specs.Sighting.{IsAmong}
+use Rattle.cmc_rules.specs.RequestManager.{body_of, ask_signature, make_request, is_stale, stale_request, ask_with, by_count, by_stale, with_request_file, with_key, request_of, request_manager, signed_by, signed_in, signed_with, signed_for, request_after}
+use Rattle.cmc_rules.specs.SeenObjects.{IsAmong}
 use Rattle.cmc_rules.specs.Sound.{IsFollowed, IsWithin}
 use Rattle.cmc_rules.proofs.Sights.{found_among, left_among, last_among}
 use Rattle.cmc_rules.proofs.Lines.{by_test}

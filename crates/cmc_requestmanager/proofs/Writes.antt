@@ -10,9 +10,9 @@ use Rattle.cmc_pass.specs.declared.value.Value.{Value}
 use Rattle.cmc_model.specs.Admission.{refusing_rule}
 use Rattle.cmc_model.specs.Generated.{named}
 use Rattle.cmc_model.specs.Stored.{created}
-use Rattle.cmc_rules.specs.Revising.{delete_call}
-use Rattle.cmc_rules.specs.RequestManaging.{request_spec, new_request, make_request, request_after}
-use Rattle.cmc_rules.specs.Sighting.{IsAmong, OnSeen}
+use Rattle.cmc_rules.specs.RevisionManager.{delete_call}
+use Rattle.cmc_rules.specs.RequestManager.{request_spec, new_request, make_request, request_after}
+use Rattle.cmc_rules.specs.SeenObjects.{IsAmong, OnSeen}
 use Rattle.cmc_rules.specs.Sound.{IsOfCertificate, IsWriteAfterValue, IsWithin}
 use Rattle.cmc_rules.proofs.Sights.{seen_owned}
 

@@ -6,10 +6,10 @@ ghost use Rattle.cmc_der.specs.Keys.{key_shown};
 ghost use Rattle.cmc_x509.specs.ReadKeys.{key_file_at};
 ghost use Rattle.cmc_objects.specs.KeyPairs.{key_read};
 ghost use Rattle.cmc_pass.specs.declared.pass.Act.TheVariants.{Nothing};
-ghost use Rattle.cmc_requestmanager.specs.Choosing.{request_act_of};
+ghost use Rattle.cmc_requestmanager.specs.Choices.{request_act_of};
 ghost use Rattle.cmc_rules.specs.NextRequests as next_words;
-ghost use Rattle.cmc_rules.specs.RequestManaging as table;
-ghost use Rattle.cmc_rules.specs.Revising as revising;
+ghost use Rattle.cmc_rules.specs.RequestManager as table;
+ghost use Rattle.cmc_rules.specs.RevisionManager as revising;
 
 use crate::choices::{Choice, build, is_nothing};
 use cmc_match::{key_fits_as_read, public_in};
@@ -188,7 +188,7 @@ fn request_for<'a>(
 }
 
 /// What the controller chooses to do on these views.
-#[tactic(auto, unfolding(cmc_rules::specs::RequestManaging::request_manager))]
+#[tactic(auto, unfolding(cmc_rules::specs::RequestManager::request_manager))]
 fn choose<'a>(views: &'a Views) -> Choice<'a>
     requires { next_words.HasNextRevision views.now.certificate }
     ensures { request_act_of result ≡ table.request_manager views.now }

@@ -2,8 +2,8 @@
 ghost use Rattle.std.specs.Prelude.{◌≡◌, ◌<◌, ◌^◌, Some, IfOk, OnOk, OnErr, decimal};
 ghost use Rattle.cmc_meta.specs.PairLists.{with_text};
 ghost use Rattle.cmc_rules.specs.NextRequests as next;
-ghost use Rattle.cmc_rules.specs.RequestManaging as table;
-ghost use Rattle.cmc_rules.specs.Revising as revising;
+ghost use Rattle.cmc_rules.specs.RequestManager as table;
+ghost use Rattle.cmc_rules.specs.RevisionManager as revising;
 
 use cmc_meta::{Bytes, Key, Kind, Pairs, Text};
 use cmc_next::owned_meta;
@@ -15,7 +15,7 @@ use cmc_pass::Act;
 use std::alloc::{AllocError, Global};
 
 /// The deletion of the request, at its version.
-#[tactic(auto, unfolding(cmc_rules::specs::Revising::delete_call))]
+#[tactic(auto, unfolding(cmc_rules::specs::RevisionManager::delete_call))]
 pub fn delete_call(request: &CertificateRequest) -> Result<Act, AllocError>
     ensures { IfOk result (λ a. a ≡ revising.delete_call request.now) }
 {
@@ -46,7 +46,7 @@ fn mark(alloc: Global, marks: Pairs, name: &str, text: Text) -> Result<Pairs, Al
     Ok(marks)
 }
 
-#[tactic(auto, unfolding(cmc_rules::specs::RequestManaging::request_marks))]
+#[tactic(auto, unfolding(cmc_rules::specs::RequestManager::request_marks))]
 fn request_marks(
     alloc: Global,
     certificate: &Certificate,
@@ -78,7 +78,7 @@ fn request_marks(
     )
 }
 
-#[tactic(auto, unfolding(cmc_rules::specs::RequestManaging::request_spec))]
+#[tactic(auto, unfolding(cmc_rules::specs::RequestManager::request_spec))]
 fn request_spec(alloc: Global, spec: &CertSpec, request: Bytes) -> Result<RequestSpec, AllocError>
     ensures { IfOk result (λ s. s ≡ table.request_spec spec.now request) }
 {
@@ -93,7 +93,7 @@ fn request_spec(alloc: Global, spec: &CertSpec, request: Bytes) -> Result<Reques
     })
 }
 
-#[tactic(auto, unfolding(cmc_rules::specs::RequestManaging::new_request))]
+#[tactic(auto, unfolding(cmc_rules::specs::RequestManager::new_request))]
 fn new_request(
     alloc: Global,
     certificate: &Certificate,
@@ -116,7 +116,7 @@ fn new_request(
 /// The create of a request for the next revision of the Certificate with this certification request, under a name that
 /// is generated: with the issuer, the duration, the mark of a CA and the usages of the specification, owned by the
 /// Certificate, and with annotations that name the Certificate, the revision and the Secret with the key.
-#[tactic(auto, unfolding(cmc_rules::specs::RequestManaging::make_request))]
+#[tactic(auto, unfolding(cmc_rules::specs::RequestManager::make_request))]
 pub fn make_request(
     alloc: Global,
     certificate: &Certificate,

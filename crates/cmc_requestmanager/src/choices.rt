@@ -1,7 +1,7 @@
 //! What the controller chooses to do, and the act of it.
 ghost use Rattle.std.specs.Prelude.{◌≡◌, ◌↔◌, IfOk, IsTrue};
 ghost use Rattle.cmc_pass.specs.declared.pass.Act.TheVariants.{Nothing};
-ghost use Rattle.cmc_requestmanager.specs.Choosing.{request_act_of};
+ghost use Rattle.cmc_requestmanager.specs.Choices.{request_act_of};
 
 use crate::calls::delete_call;
 use crate::questions::ask_signature;
@@ -28,7 +28,7 @@ pub enum Choice<'a> {
 }
 
 /// Whether nothing is chosen.
-#[tactic(auto, unfolding(cmc_rules::specs::Revising::delete_call, cmc_rules::specs::RequestManaging::ask_signature))]
+#[tactic(auto, unfolding(cmc_rules::specs::RevisionManager::delete_call, cmc_rules::specs::RequestManager::ask_signature))]
 pub fn is_nothing(choice: Choice<'_>) -> bool
     ensures { IsTrue result ↔ (request_act_of choice.entry ≡ Nothing) }
 {

@@ -4,10 +4,10 @@ ghost use Rattle.std.specs.Prelude.{◌≡◌, IfOk, IsSome, Some, option_map};
 ghost use Rattle.cmc_der.specs.Keys.{key_shown};
 ghost use Rattle.cmc_objects.specs.KeyPairs.{key_read};
 ghost use Rattle.cmc_next.specs.Questions.{IsQuestionOf};
-ghost use Rattle.cmc_pass.specs.Giving.{order_of, value_of};
+ghost use Rattle.cmc_pass.specs.GivenValues.{order_of, value_of};
 ghost use Rattle.cmc_pass.specs.Values.{IsValue};
 ghost use Rattle.cmc_rules.specs.NextRequests as next_words;
-ghost use Rattle.cmc_rules.specs.RequestManaging as table;
+ghost use Rattle.cmc_rules.specs.RequestManager as table;
 
 use crate::calls::make_request;
 use crate::questions::body_of;
@@ -101,7 +101,7 @@ fn request_from(alloc: Global, views: &Views, value: &Value) -> Result<Option<Ca
     }
 }
 
-#[tactic(auto, unfolding(cmc_rules::specs::RequestManaging::request_after))]
+#[tactic(auto, unfolding(cmc_rules::specs::RequestManager::request_after))]
 fn followed(
     alloc: Global,
     views: &Views,

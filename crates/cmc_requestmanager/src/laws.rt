@@ -1,6 +1,6 @@
 //! What is proved of the controller's table.
 ghost use Rattle.cmc_objects.specs.declared.role.Role.TheVariants.{RequestManager};
-ghost use Rattle.cmc_rules.specs.RequestManaging.{request_manager, request_after};
+ghost use Rattle.cmc_rules.specs.RequestManager.{request_manager, request_after};
 ghost use Rattle.cmc_rules.specs.Sound.{IsSoundTable};
 
 /// A law: each call makes a request, with the issuer and the duration of the Certificate that the controller sees, or

@@ -1,7 +1,7 @@
 //! The question for a signature, and the certification request that it signs.
 ghost use Rattle.std.specs.Prelude.{◌≡◌, IfOk};
 ghost use Rattle.cmc_der.specs.Keys.{key_shown};
-ghost use Rattle.cmc_rules.specs.RequestManaging as table;
+ghost use Rattle.cmc_rules.specs.RequestManager as table;
 
 use cmc_meta::Bytes;
 use cmc_objects::{CertSpec, Certificate, CsrOrder, Order, Shared};
@@ -23,7 +23,7 @@ fn name_set(spec: &CertSpec) -> Result<NameSet, AllocError>
 }
 
 /// The body of a certification request with the names that the specification asks for and this public key.
-#[tactic(auto, unfolding(cmc_rules::specs::RequestManaging::body_of))]
+#[tactic(auto, unfolding(cmc_rules::specs::RequestManager::body_of))]
 pub fn body_of(alloc: Global, spec: &CertSpec, key: &Spki<'_>) -> Result<Bytes, AllocError>
     ensures { IfOk result (λ body. body ≡ table.body_of spec.now (key_shown key.now)) }
 {
@@ -32,7 +32,7 @@ pub fn body_of(alloc: Global, spec: &CertSpec, key: &Spki<'_>) -> Result<Bytes, 
 }
 
 /// The question for the signature of that body by the key of this file, whose public key it is.
-#[tactic(auto, unfolding(cmc_rules::specs::RequestManaging::ask_signature))]
+#[tactic(auto, unfolding(cmc_rules::specs::RequestManager::ask_signature))]
 pub fn ask_signature(
     alloc: Global,
     certificate: &Certificate,

@@ -2,7 +2,7 @@
 ghost use Rattle.std.specs.Prelude.{◌≡◌, IfOk, IsSome};
 ghost use Rattle.cmc_objects.specs.declared.orders.Order.TheVariants as orders;
 ghost use Rattle.cmc_pass.specs.declared.pass.Act.TheVariants as acts;
-ghost use Rattle.cmc_rules.specs.Approving.{approver};
+ghost use Rattle.cmc_rules.specs.Approver.{approver};
 
 use crate::checks::{passes, tells_at};
 use crate::fixtures::{RequestRow, ask_group, request};
@@ -363,7 +363,7 @@ fn question(alloc: Global, views: &Views, desk: &Desk) -> Result<Shared<JudgeOrd
 }
 
 /// What is written of the request that is seen, at 2030-01-01T00:01:00Z.
-#[tactic(auto, unfolding(cmc_rules::specs::Approving::judged_after))]
+#[tactic(auto, unfolding(cmc_rules::specs::Approver::judged_after))]
 fn written_on(
     alloc: Global,
     views: &Views,

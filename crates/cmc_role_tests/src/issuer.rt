@@ -3,7 +3,7 @@
 ghost use Rattle.std.specs.Prelude.{◌≡◌, ◌<◌, ◌^◌, [], IfOk, IsSome, true};
 ghost use Rattle.cmc_objects.specs.declared.orders.Order.TheVariants as orders;
 ghost use Rattle.cmc_pass.specs.declared.pass.Act.TheVariants as acts;
-ghost use Rattle.cmc_rules.specs.Granting.{HasRequestForm, issuer};
+ghost use Rattle.cmc_rules.specs.Issuer.{HasRequestForm, issuer};
 ghost use Rattle.cmc_objects.specs.Requests.{is_short_text, is_short_option, is_duration_form, is_request_form};
 
 use crate::checks::{tells, tells_at};
@@ -542,7 +542,7 @@ const BY_SCRIPT: &str =
 
 static ASKED_ONCE: Case = OPEN;
 
-#[tactic(auto, unfolding(cmc_rules::specs::Granting::answered_after))]
+#[tactic(auto, unfolding(cmc_rules::specs::Issuer::answered_after))]
 fn scripted(alloc: Global, views: &Views) -> Result<String, Fail>
     requires form { HasRequestForm views.now.request }
     requires stands { IsSome views.now.request }
@@ -554,7 +554,7 @@ fn scripted(alloc: Global, views: &Views) -> Result<String, Fail>
 }
 
 /// The same, where question and answer are handed in each by itself.
-#[tactic(auto, unfolding(cmc_rules::specs::Granting::answered_after))]
+#[tactic(auto, unfolding(cmc_rules::specs::Issuer::answered_after))]
 fn scripted_apart(alloc: Global, views: &Views) -> Result<String, Fail>
     requires form { HasRequestForm views.now.request }
     requires stands { IsSome views.now.request }

@@ -2,7 +2,7 @@
 ghost use Rattle.std.specs.Prelude.{◌≡◌, ◌<◌, ◌^◌, IfOk, IsSome};
 ghost use Rattle.cmc_objects.specs.declared.orders.Order.TheVariants as orders;
 ghost use Rattle.cmc_pass.specs.declared.pass.Act.TheVariants as acts;
-ghost use Rattle.cmc_rules.specs.KeyManaging.{key_manager};
+ghost use Rattle.cmc_rules.specs.KeyManager.{key_manager};
 
 use crate::checks::{passes, tells, tells_at};
 use crate::fixtures::{Case, SecretRow, Stated, bytes, certificate, views};
@@ -372,7 +372,7 @@ fn views_with(alloc: Global, case: &Case) -> Result<Views, Fail>
     Ok(views)
 }
 
-#[tactic(auto, unfolding(cmc_rules::specs::KeyManaging::key_after))]
+#[tactic(auto, unfolding(cmc_rules::specs::KeyManager::key_after))]
 fn kept(
     alloc: Global,
     views: &Views,

@@ -5,7 +5,7 @@ ghost use Rattle.cmc_der.specs.Keys.{key_shown};
 ghost use Rattle.cmc_objects.specs.declared.orders.Order.TheVariants as orders;
 ghost use Rattle.cmc_pass.specs.declared.pass.Act.TheVariants as acts;
 ghost use Rattle.cmc_rules.specs.NextRequests.{HasNextRevision};
-ghost use Rattle.cmc_rules.specs.RequestManaging as table;
+ghost use Rattle.cmc_rules.specs.RequestManager as table;
 
 use crate::checks::{tells, tells_at};
 use crate::fixtures::{Case, RequestRow, SecretRow, Stated, views};
@@ -440,7 +440,7 @@ fn question(alloc: Global, views: &Views, desk: &Desk) -> Result<Shared<CsrOrder
     order_in(act(alloc, views, 0, desk)?)
 }
 
-#[tactic(auto, unfolding(cmc_rules::specs::RequestManaging::request_after))]
+#[tactic(auto, unfolding(cmc_rules::specs::RequestManager::request_after))]
 fn made_on(
     alloc: Global,
     views: &Views,

@@ -11,7 +11,7 @@ use Rattle.cmc_objects.specs.declared.entry.Entry.{Entry}
 use Rattle.cmc_objects.specs.declared.object.Object.{Object}
 use Rattle.cmc_objects.specs.declared.object.Object.TheVariants.{Cert, Request, Secret}
 use Rattle.cmc_objects.specs.Objects.{meta_of, numbered}
-use Rattle.cmc_model.specs.Accepting.{IsFounded}
+use Rattle.cmc_model.specs.Acceptance.{IsFounded}
 use Rattle.cmc_model.specs.Admission.{certificate_rules, least_failing, is_secret_refused, changes_type, is_tls_incomplete, verdict_rules, is_name_long, has_many_names, are_usages_wrong, is_outside_limits, refusing_rule, is_taken}
 use Rattle.cmc_model.specs.Histories.{Setting, moment, state, objects, accepted}
 use Rattle.cmc_model.specs.Objects.{Objects, object_at}

@@ -14,7 +14,7 @@ use Rattle.cmc_objects.specs.declared.request.RequestStatus.{RequestStatus}
 use Rattle.cmc_policies.specs.declared.renewal.Renew.{Renew}
 use Rattle.cmc_policies.specs.declared.renewal.Renew.TheVariants.{Default, Before, Percent}
 use Rattle.cmc_policies.specs.Renewal.{IsCertificateTime, lifetime, third, lead, renewal}
-use Rattle.cmc_rules.specs.Answering.{issued_condition, pending_condition, failed_condition, answered}
+use Rattle.cmc_rules.specs.IssuerAnswers.{issued_condition, pending_condition, failed_condition, answered}
 use Rattle.cmc_rules.specs.Dates.{AreDated, IsDatedAnswer}
 
 -- ---- conditions

@@ -17,7 +17,7 @@ use Rattle.cmc_objects.specs.declared.object.Object.{Object}
 use Rattle.cmc_objects.specs.declared.object.Object.TheVariants.{Cert, Request, Secret}
 use Rattle.cmc_objects.specs.Objects.{key_of, numbered}
 use Rattle.cmc_model.specs.declared.write.Write.{Write}
-use Rattle.cmc_model.specs.Accepting.{IsFounded}
+use Rattle.cmc_model.specs.Acceptance.{IsFounded}
 use Rattle.cmc_model.specs.Admission.{shares_secret, is_taken, refusing_rule}
 use Rattle.cmc_model.specs.Histories.{Setting, moment, state, objects, accepted}
 use Rattle.cmc_model.specs.Objects.{Objects, no_objects, object_at}

@@ -16,7 +16,7 @@ use Rattle.cmc_model.specs.Replies.{is_accepted}
 use Rattle.cmc_model.specs.Histories.{Setting, state, accepted, role_eq}
 use Rattle.cmc_model.specs.Writes.{writes, write_at, objects_of}
 use Rattle.cmc_rules.specs.Positions.{is_informer, position, cache}
-use Rattle.cmc_rules.specs.Viewing.{Caches, caches, views, views_in}
+use Rattle.cmc_rules.specs.Views.{Caches, caches, views, views_in}
 use Rattle.cmc_rules.specs.Origins.{begun}
 use Rattle.cmc_rules.specs.Legality.{IsOfKind, IsLegal}
 use Rattle.cmc_model.proofs.Writes.{writes_count, objects_of-older}

@@ -32,15 +32,15 @@ use Rattle.cmc_objects.specs.declared.call.Reply.TheVariants.{Ok, Unchanged, Fou
 use Rattle.cmc_model.specs.Generated.{named}
 use Rattle.cmc_model.specs.Replies.{is_accepted, under_reply, settled}
 use Rattle.cmc_model.proofs.Writing.{IsCallOf}
-use Rattle.cmc_model.specs.Accepting.{IsFounded}
+use Rattle.cmc_model.specs.Acceptance.{IsFounded}
 use Rattle.cmc_model.specs.Histories.{Setting, moment, state, objects, accepted}
 use Rattle.cmc_model.specs.Writes.{writes, write_of}
-use Rattle.cmc_objects.specs.Watching.{works_on_requests, looks_at_secret, looks_at_next, looks_at_requests}
-use Rattle.cmc_rules.specs.Viewing.{Caches, caches, certificate_in, request_in, secret_in, certificate_at, request_at, target_at, is_owned, has_next_label, next_in, owned_in, next_of, requests_of, of_certificate, views_of, views_in, views}
+use Rattle.cmc_objects.specs.Informers.{works_on_requests, looks_at_secret, looks_at_next, looks_at_requests}
+use Rattle.cmc_rules.specs.Views.{Caches, caches, certificate_in, request_in, secret_in, certificate_at, request_at, target_at, is_owned, has_next_label, next_in, owned_in, next_of, requests_of, of_certificate, views_of, views_in, views}
 use Rattle.cmc_rules.specs.Passes.{open_pass, called, new_pass, stage_after}
 use Rattle.cmc_rules.specs.Legality.{IsLegal}
 use Rattle.cmc_model.specs.Versions.{IsVersion, HasVersion}
-use Rattle.cmc_rules.specs.Sighting.{IsAmong, IsPart, IsPartOf, IsSeen, ForNone, OnSeen}
+use Rattle.cmc_rules.specs.SeenObjects.{IsAmong, IsPart, IsPartOf, IsSeen, ForNone, OnSeen}
 use Rattle.cmc_meta.proofs.KeyOrder.{key_cmp-total}
 use Rattle.cmc_model.proofs.Versions.{IsLawful, lawful_object, versions_low}
 use Rattle.cmc_rules.proofs.Versions.{lawful, stands_is_version}

@@ -8,7 +8,7 @@ use Rattle.cmc_objects.specs.declared.request.CertificateRequest.{CertificateReq
 use Rattle.cmc_objects.specs.declared.secret.Secret.{Secret as SecretObject}
 use Rattle.cmc_objects.specs.declared.object.Object.TheVariants.{Cert, Request, Secret}
 use Rattle.cmc_pass.specs.declared.pass.Views.{Views}
-use Rattle.cmc_rules.specs.Sighting.{IsAmong, IsPart, IsPartOf, IsSeen}
+use Rattle.cmc_rules.specs.SeenObjects.{IsAmong, IsPart, IsPartOf, IsSeen}
 
 pub seen_certificate : (seen : Views) (c : Certificate) → seen.certificate ≡ Some c → IsSeen seen (Cert c)
 seen_certificate seen c sees = inl (subst (λ (x : Option Certificate). IsPart Cert x (Cert c)) (sym sees) refl)

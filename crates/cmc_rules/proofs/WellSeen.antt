@@ -22,11 +22,11 @@ use Rattle.cmc_model.specs.Histories.{Setting}
 use Rattle.cmc_model.specs.Writes.{writes}
 use Rattle.cmc_rules.specs.declared.progress.OpenPass.{OpenPass}
 use Rattle.cmc_rules.specs.Admitted.{MeetsRules}
-use Rattle.cmc_objects.specs.Watching.{works_on_requests, looks_at_secret, looks_at_next, looks_at_requests}
-use Rattle.cmc_rules.specs.Viewing.{Caches, caches, secret_in, certificate_at, target_at, is_owned, has_next_label, next_in, owned_in, next_of, requests_of, of_certificate, views_of, views_in, views}
+use Rattle.cmc_objects.specs.Informers.{works_on_requests, looks_at_secret, looks_at_next, looks_at_requests}
+use Rattle.cmc_rules.specs.Views.{Caches, caches, secret_in, certificate_at, target_at, is_owned, has_next_label, next_in, owned_in, next_of, requests_of, of_certificate, views_of, views_in, views}
 use Rattle.cmc_rules.specs.Passes.{open_pass, new_pass, stage_after}
 use Rattle.cmc_rules.specs.Legality.{IsLegal}
-use Rattle.cmc_rules.specs.Sighting.{IsAmong, IsSeen, IsWellSeen}
+use Rattle.cmc_rules.specs.SeenObjects.{IsAmong, IsSeen, IsWellSeen}
 use Rattle.cmc_rules.proofs.Admitted.{versions_meet}
 use Rattle.cmc_rules.proofs.Carrying.{over_call, over_ask, over_given, over_begin, over_end, over_stop}
 use Rattle.cmc_rules.proofs.Seen.{seen_is_version}

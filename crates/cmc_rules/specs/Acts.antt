@@ -8,14 +8,14 @@ use Rattle.cmc_pass.specs.declared.pass.Views.{Views}
 use Rattle.cmc_pass.specs.declared.pass.Desk.{Desk}
 use Rattle.cmc_pass.specs.declared.value.Value.{Value}
 use Rattle.cmc_pass.specs.declared.pass.Act.{Act}
-use Rattle.cmc_rules.specs.Triggering.{trigger}
-use Rattle.cmc_rules.specs.KeyManaging.{key_manager, key_after}
-use Rattle.cmc_rules.specs.RequestManaging.{request_manager, request_after}
-use Rattle.cmc_rules.specs.Approving.{approver, judged_after}
-use Rattle.cmc_rules.specs.Granting.{issuer, answered_after}
-use Rattle.cmc_rules.specs.Issuing.{issuing}
-use Rattle.cmc_rules.specs.Readying.{readiness}
-use Rattle.cmc_rules.specs.Revising.{revise}
+use Rattle.cmc_rules.specs.Trigger.{trigger}
+use Rattle.cmc_rules.specs.KeyManager.{key_manager, key_after}
+use Rattle.cmc_rules.specs.RequestManager.{request_manager, request_after}
+use Rattle.cmc_rules.specs.Approver.{approver, judged_after}
+use Rattle.cmc_rules.specs.Issuer.{issuer, answered_after}
+use Rattle.cmc_rules.specs.Issuance.{issuing}
+use Rattle.cmc_rules.specs.Readiness.{readiness}
+use Rattle.cmc_rules.specs.RevisionManager.{revise}
 
 -- the act of the role on these views at this moment
 unfoldable pub act : Role → Views → ℤ → Desk → Act

@@ -23,7 +23,7 @@ use Rattle.cmc_model.specs.Histories.{Setting}
 use Rattle.cmc_rules.specs.Passes.{open_pass}
 use Rattle.cmc_rules.specs.Memory.{past}
 use Rattle.cmc_rules.specs.Sameness.{IsDue}
-use Rattle.cmc_rules.specs.Viewing.{views}
+use Rattle.cmc_rules.specs.Views.{views}
 
 -- the act of the pass
 abbrev pub act_of : Setting → List Entry → OpenPass → Act

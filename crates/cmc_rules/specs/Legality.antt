@@ -13,7 +13,7 @@ use Rattle.cmc_rules.specs.declared.progress.OpenPass.{OpenPass}
 use Rattle.cmc_model.specs.Replies.{IsReply}
 use Rattle.cmc_model.specs.Histories.{Setting, moment, state, accepted, runs}
 use Rattle.cmc_model.specs.Writes.{writes, write_at, is_known}
-use Rattle.cmc_objects.specs.Watching.{has_informer, kind_of_work}
+use Rattle.cmc_objects.specs.Informers.{has_informer, kind_of_work}
 use Rattle.cmc_rules.specs.Positions.{position, positions}
 use Rattle.cmc_rules.specs.Origins.{begun}
 use Rattle.cmc_rules.specs.Passes.{open_pass, IsWorking}

@@ -20,7 +20,7 @@ use Rattle.cmc_rules.specs.declared.progress.LastPass.{LastPass}
 use Rattle.cmc_rules.specs.declared.progress.Past.{Past}
 use Rattle.cmc_model.specs.Replies.{is_accepted, key_of_call}
 use Rattle.cmc_model.specs.Histories.{Setting, accepted, role_eq}
-use Rattle.cmc_rules.specs.Viewing.{views}
+use Rattle.cmc_rules.specs.Views.{views}
 use Rattle.cmc_rules.specs.Passes.{open_pass, is_pass_of}
 
 abbrev pub no_past : Past

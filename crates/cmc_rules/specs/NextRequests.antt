@@ -7,7 +7,7 @@ use Rattle.cmc_meta.specs.declared.conditions.Tri.TheVariants.{False}
 use Rattle.cmc_meta.specs.ConditionLists.{condition_at, tri_eq}
 use Rattle.cmc_objects.specs.declared.certificate.Certificate.{Certificate}
 use Rattle.cmc_objects.specs.declared.request.CertificateRequest.{CertificateRequest}
-use Rattle.cmc_match.specs.Matching.{matches, has_key}
+use Rattle.cmc_match.specs.Matches.{matches, has_key}
 use Rattle.cmc_match.specs.Revisions.{is_of_revision}
 
 -- the revision that is issued: the one after the revision that stands

@@ -30,8 +30,8 @@ use Rattle.cmc_rules.specs.declared.progress.OpenPass.{OpenPass}
 use Rattle.cmc_model.specs.Replies.{key_of_call}
 use Rattle.cmc_model.specs.Histories.{Setting, role_eq}
 use Rattle.cmc_model.specs.Writes.{writes, last_under}
-use Rattle.cmc_rules.specs.Viewing.{views}
-use Rattle.cmc_rules.specs.Issuing.{issuing}
+use Rattle.cmc_rules.specs.Views.{views}
+use Rattle.cmc_rules.specs.Issuance.{issuing}
 
 -- ---- how far a pass comes
 

@@ -3,7 +3,7 @@ use Rattle.std.specs.Prelude.{ℕ, Bool, ◌&&◌, List, [], ◌∷◌, if◌the
 use Rattle.cmc_meta.specs.declared.key.Kind.{Kind}
 use Rattle.cmc_meta.specs.declared.key.Kind.TheVariants.{Certificate, CertificateRequest, Secret}
 use Rattle.cmc_objects.specs.declared.role.Role.{Role}
-use Rattle.cmc_objects.specs.Watching.{has_informer}
+use Rattle.cmc_objects.specs.Informers.{has_informer}
 use Rattle.cmc_objects.specs.declared.entry.Positions.{Positions}
 use Rattle.cmc_objects.specs.declared.entry.Entry.{Entry}
 use Rattle.cmc_objects.specs.declared.entry.Entry.TheVariants.{Deliver, List as Listed, Start}

@@ -21,7 +21,7 @@ use Rattle.cmc_model.specs.Objects.{object_at}
 use Rattle.cmc_model.specs.Replies.{key_of_call, settled, stored, is_accepted}
 use Rattle.cmc_model.specs.Histories.{Setting, moment, objects, accepted}
 use Rattle.cmc_rules.specs.declared.progress.OpenPass.{OpenPass}
-use Rattle.cmc_rules.specs.Viewing.{has_next_label}
+use Rattle.cmc_rules.specs.Views.{has_next_label}
 use Rattle.cmc_rules.specs.Passes.{open_pass}
 
 -- ---- which parts of a status

@@ -4,9 +4,9 @@ use Rattle.cmc_objects.specs.declared.entry.Entry.{Entry}
 use Rattle.cmc_model.specs.Histories.{Setting}
 use Rattle.cmc_rules.specs.Legality.{IsLegal}
 use Rattle.cmc_rules.specs.Causes.{IsCaused}
-use Rattle.cmc_rules.specs.Scripting.{scripted}
-use Rattle.cmc_rules.specs.Resting.{IsAtRest}
-use Rattle.cmc_rules.specs.Following.{owed, Follows}
+use Rattle.cmc_rules.specs.Scripts.{scripted}
+use Rattle.cmc_rules.specs.Rest.{IsAtRest}
+use Rattle.cmc_rules.specs.UserSteps.{owed, Follows}
 
 -- Each reply is the store's and each entry stands where it may; passes do what their acts say; the script is followed; and it fits.
 -- Such a history may end between a step of the script and what the step brings about.

@@ -25,7 +25,7 @@ use Rattle.cmc_objects.specs.declared.entry.Entry.TheVariants.{Script, Call as C
 use Rattle.cmc_objects.specs.Requests.{is_approved, is_denied}
 use Rattle.cmc_der.specs.Keys.{CertificateFields}
 use Rattle.cmc_match.specs.Marks.{is_temporary, asks_for_temporary}
-use Rattle.cmc_match.specs.Matching.{Matches}
+use Rattle.cmc_match.specs.Matches.{Matches}
 use Rattle.cmc_match.specs.Facts.{IsPair, HasRequestedKey, key_in, certificate_file_in}
 use Rattle.cmc_match.specs.Revisions.{only_of}
 use Rattle.cmc_answers.specs.Temporary.{temporary}
@@ -36,10 +36,10 @@ use Rattle.cmc_model.specs.Histories.{Setting, moment, objects, accepted}
 use Rattle.cmc_model.specs.Versions.{HasVersion}
 use Rattle.cmc_model.specs.Writes.{writes}
 use Rattle.cmc_rules.specs.declared.progress.OpenPass.{OpenPass}
-use Rattle.cmc_rules.specs.Viewing.{is_owned, has_next_label}
+use Rattle.cmc_rules.specs.Views.{is_owned, has_next_label}
 use Rattle.cmc_rules.specs.Passes.{open_pass}
-use Rattle.cmc_rules.specs.Raising.{stated_revision, revision_of_uid, RaisesRevision}
-use Rattle.cmc_rules.specs.Sighting.{IsAmong}
+use Rattle.cmc_rules.specs.Revisions.{stated_revision, revision_of_uid, RaisesRevision}
+use Rattle.cmc_rules.specs.SeenObjects.{IsAmong}
 use Rattle.cmc_rules.specs.Rights.{IsRightfulEntry}
 
 -- an entry of this kind stands in the history

@@ -22,7 +22,7 @@ use Rattle.cmc_policies.specs.Renewal.{backoff, renewal}
 use Rattle.cmc_keys.specs.Kinds.{allows_size}
 use Rattle.cmc_match.specs.Facts.{pair_at, IsPair, HasRequestedKey, key_in, certificate_file_in}
 use Rattle.cmc_match.specs.Marks.{is_temporary}
-use Rattle.cmc_match.specs.Matching.{Matches}
+use Rattle.cmc_match.specs.Matches.{Matches}
 use Rattle.cmc_match.specs.Revisions.{next_request}
 use Rattle.cmc_pass.specs.declared.value.Value.{Value}
 use Rattle.cmc_pass.specs.declared.value.Value.TheVariants as values
@@ -33,15 +33,15 @@ use Rattle.cmc_pass.specs.declared.pass.IssuePlan.{IssuePlan}
 use Rattle.cmc_pass.specs.declared.pass.TemporaryPlan.{TemporaryPlan}
 use Rattle.cmc_pass.specs.declared.pass.Act.{Act}
 use Rattle.cmc_pass.specs.declared.pass.Act.TheVariants.{Nothing, Call as Calls, Ask as Asks, Issue, Temporary}
-use Rattle.cmc_objects.specs.Watching.{works_on_requests, looks_at_secret, looks_at_next, looks_at_requests}
+use Rattle.cmc_objects.specs.Informers.{works_on_requests, looks_at_secret, looks_at_next, looks_at_requests}
 use Rattle.cmc_rules.specs.Dates.{StaysDated}
-use Rattle.cmc_rules.specs.Sighting.{IsAmong, IsWellSeen, OnSeen}
-use Rattle.cmc_rules.specs.Viewing.{has_next_label}
+use Rattle.cmc_rules.specs.SeenObjects.{IsAmong, IsWellSeen, OnSeen}
+use Rattle.cmc_rules.specs.Views.{has_next_label}
 use Rattle.cmc_rules.specs.Passes.{writes_temporary}
-use Rattle.cmc_rules.specs.Raising.{KeepsRevision, RaisesRevision}
+use Rattle.cmc_rules.specs.Revisions.{KeepsRevision, RaisesRevision}
 use Rattle.cmc_rules.specs.Rights.{MayChange}
 use Rattle.cmc_rules.specs.Safety.{IsIssued, IsTemporaryCertificate, IsSecretWrite, IsStatusUpdate}
-use Rattle.cmc_rules.specs.Triggering.{frame_of}
+use Rattle.cmc_rules.specs.Trigger.{frame_of}
 use Rattle.cmc_rules.specs.Acts.{act, call_after}
 
 -- ---- what a call does

@@ -20,7 +20,7 @@ use Rattle.cmc_model.specs.Objects.{Objects}
 use Rattle.cmc_match.specs.Marks.{has_text}
 use Rattle.cmc_match.specs.Revisions.{is_of_revision}
 use Rattle.cmc_answers.specs.Signings.{signing_of}
-use Rattle.cmc_rules.specs.Answering.{answered}
+use Rattle.cmc_rules.specs.IssuerAnswers.{answered}
 
 -- ---- the request that a step speaks of
 

@@ -22,15 +22,15 @@ use Rattle.cmc_pass.specs.declared.value.Value.TheVariants as values
 use Rattle.cmc_model.specs.Stored.{created}
 use Rattle.cmc_rules.specs.Acts.{act, call_after}
 use Rattle.cmc_rules.specs.Causes.{IsFirstCall}
-use Rattle.cmc_rules.specs.KeyManaging as keys
-use Rattle.cmc_rules.specs.KeyManaging.{key_manager, key_after, name_call, drop_call, ask_key, make_call}
+use Rattle.cmc_rules.specs.KeyManager as keys
+use Rattle.cmc_rules.specs.KeyManager.{key_manager, key_after, name_call, drop_call, ask_key, make_call}
 use Rattle.cmc_rules.specs.NextKeys.{named_key}
-use Rattle.cmc_rules.specs.RequestManaging as requests
-use Rattle.cmc_rules.specs.RequestManaging.{request_after, make_request}
+use Rattle.cmc_rules.specs.RequestManager as requests
+use Rattle.cmc_rules.specs.RequestManager.{request_after, make_request}
 use Rattle.cmc_rules.specs.Rights.{MayChange}
-use Rattle.cmc_rules.specs.Sighting.{OnSeen}
+use Rattle.cmc_rules.specs.SeenObjects.{OnSeen}
 use Rattle.cmc_rules.specs.Sound.{IsOrdinary, IsWriteAfterValue, IsWithin}
-use Rattle.cmc_rules.specs.Triggering as triggering
+use Rattle.cmc_rules.specs.Trigger as triggering
 
 -- the call makes no object under a name of its own
 abbrev pub IsUnnamed : Call → Type 0

@@ -21,7 +21,7 @@ use Rattle.cmc_model.specs.Replies.{IsAdmitted, IsChange, IsCreated, IsUpdated, 
 use Rattle.cmc_model.specs.Stored.{updated, with_status}
 use Rattle.cmc_model.specs.Histories.{Setting, state, objects, accepted}
 use Rattle.cmc_rules.specs.Safety.{IsStatusUpdate}
-use Rattle.cmc_rules.specs.Sighting.{IsSeen, OnSeen}
+use Rattle.cmc_rules.specs.SeenObjects.{IsSeen, OnSeen}
 use Rattle.cmc_rules.specs.Sound.{IsRaiseOf}
 use Rattle.cmc_store_laws.specs.Names.{IsFresh}
 use Rattle.cmc_run_laws.specs.Calm.{IsCalmReply}

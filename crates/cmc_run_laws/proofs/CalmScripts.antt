@@ -10,9 +10,9 @@ use Rattle.cmc_objects.specs.declared.entry.Entry.{Entry}
 use Rattle.cmc_objects.specs.declared.entry.Entry.TheVariants.{Script}
 use Rattle.cmc_model.specs.Histories.{Setting}
 use Rattle.cmc_rules.specs.Positions.{is_informer}
-use Rattle.cmc_rules.specs.Scripting.{scripted, step_at, held, held_by}
-use Rattle.cmc_rules.specs.Following.{IsReady}
-use Rattle.cmc_rules.specs.Resting.{IsAtRest}
+use Rattle.cmc_rules.specs.Scripts.{scripted, step_at, held, held_by}
+use Rattle.cmc_rules.specs.UserSteps.{IsReady}
+use Rattle.cmc_rules.specs.Rest.{IsAtRest}
 use Rattle.cmc_plain.specs.Plain.{HasNoScript}
 use Rattle.cmc_run_laws.specs.Calm.{lets_be, is_calm}
 

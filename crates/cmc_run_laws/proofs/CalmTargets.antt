@@ -13,7 +13,7 @@ use Rattle.cmc_objects.specs.declared.object.Object.TheVariants.{Cert}
 use Rattle.cmc_objects.specs.declared.call.Call.{Call}
 use Rattle.cmc_objects.specs.declared.call.Reply.{Reply}
 use Rattle.cmc_objects.specs.Objects.{key_of}
-use Rattle.cmc_objects.specs.Watching.{looks_at_secret}
+use Rattle.cmc_objects.specs.Informers.{looks_at_secret}
 use Rattle.cmc_pass.specs.declared.pass.Views.{Views}
 use Rattle.cmc_pass.specs.declared.pass.Act.{Act}
 use Rattle.cmc_pass.specs.declared.pass.Act.TheVariants.{Nothing, Call as Calls, Ask as Asks, Issue, Temporary}
@@ -24,10 +24,10 @@ use Rattle.cmc_model.proofs.Versions.{object_at-put}
 use Rattle.cmc_objects.specs.declared.entry.Entry.{Entry}
 use Rattle.cmc_objects.specs.declared.role.Role.{Role}
 use Rattle.cmc_rules.specs.Causes.{IsSecretCall}
-use Rattle.cmc_rules.specs.Issuing.{issuing, secret_call, new_target}
+use Rattle.cmc_rules.specs.Issuance.{issuing, secret_call, new_target}
 use Rattle.cmc_rules.specs.Legality.{IsLegal}
-use Rattle.cmc_rules.specs.Viewing.{present_views}
-use Rattle.cmc_safety.specs.Completing.{IsPlan}
+use Rattle.cmc_rules.specs.Views.{present_views}
+use Rattle.cmc_safety.specs.Completion.{IsPlan}
 use Rattle.cmc_safety.proofs.Plans.{PlansFor, PlansOf, plans}
 use Rattle.cmc_run_laws.proofs.CalmReplies.{IsNewName}
 use Rattle.cmc_run_laws.proofs.CalmViews.{target_key, no_target}

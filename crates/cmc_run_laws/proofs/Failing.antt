@@ -11,13 +11,13 @@ use Rattle.cmc_policies.specs.Renewal.{backoff_hours}
 use Rattle.cmc_pass.specs.declared.pass.Views.{Views}
 use Rattle.cmc_pass.specs.declared.pass.Act.{Act}
 use Rattle.cmc_pass.specs.declared.pass.Act.TheVariants.{Nothing}
-use Rattle.cmc_match.specs.Matching.{matches}
+use Rattle.cmc_match.specs.Matches.{matches}
 use Rattle.cmc_match.specs.Revisions.{next_request}
 use Rattle.cmc_rules.specs.Chains.{trigger_reason}
-use Rattle.cmc_rules.specs.Triggering.{trigger, for_certificate, for_reason, frame_of, is_issuing, is_backing_off, is_in_back_off, is_outrun, issue_call}
+use Rattle.cmc_rules.specs.Trigger.{trigger, for_certificate, for_reason, frame_of, is_issuing, is_backing_off, is_in_back_off, is_outrun, issue_call}
 use Rattle.std.proofs.lemmas.Bool.{and_parts}
-use Rattle.cmc_match.specs.Matching.{has_key}
-use Rattle.cmc_rules.specs.Issuing.{failed_status, failure, issuing}
+use Rattle.cmc_match.specs.Matches.{has_key}
+use Rattle.cmc_rules.specs.Issuance.{failed_status, failure, issuing}
 use Rattle.cmc_run_laws.proofs.Going.{acts, going}
 use Rattle.cmc_run_laws.specs.Issuances.{certificate_restated, with_certificate}
 

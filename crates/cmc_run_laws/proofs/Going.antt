@@ -11,8 +11,8 @@ use Rattle.cmc_pass.specs.declared.pass.Act.{Act}
 use Rattle.cmc_pass.specs.declared.pass.Act.TheVariants.{Nothing, Call, Ask, Issue, Temporary}
 use Rattle.cmc_rules.specs.NextKeys.{named_key}
 use Rattle.cmc_rules.specs.NextRequests.{is_wanted}
-use Rattle.cmc_rules.specs.Triggering.{is_issuing}
-use Rattle.cmc_rules.specs.Issuing.{issuing, with_key_of, with_file, with_request, with_wanted}
+use Rattle.cmc_rules.specs.Trigger.{is_issuing}
+use Rattle.cmc_rules.specs.Issuance.{issuing, with_key_of, with_file, with_request, with_wanted}
 use Rattle.cmc_run_laws.specs.Issuances.{with_certificate}
 
 -- there is something to do

@@ -23,7 +23,7 @@ use Rattle.cmc_model.specs.Replies.{State, IsReply, IsServed, IsCreated, IsUpdat
 use Rattle.cmc_model.specs.Stored.{updated, with_status}
 use Rattle.cmc_model.specs.Writes.{writes}
 use Rattle.cmc_rules.specs.Legality.{IsLegal}
-use Rattle.cmc_rules.specs.Sighting.{IsPart, IsSeen}
+use Rattle.cmc_rules.specs.SeenObjects.{IsPart, IsSeen}
 use Rattle.cmc_rules.proofs.Sighted.{AreKnown, stands_as_seen}
 
 -- ---- what an answer Unchanged says of what stands

@@ -33,19 +33,19 @@ use Rattle.cmc_rules.specs.declared.progress.OpenPass.{OpenPass}
 use Rattle.cmc_rules.specs.declared.progress.Stage.{Stage}
 use Rattle.cmc_rules.specs.declared.progress.Stage.TheVariants.{Fresh, Given, Read, Saved}
 use Rattle.cmc_rules.specs.Acts.{call_after}
-use Rattle.cmc_rules.specs.Approving as approving
-use Rattle.cmc_rules.specs.Approving.{judged_after, verdict_call, verdict_of}
+use Rattle.cmc_rules.specs.Approver as approving
+use Rattle.cmc_rules.specs.Approver.{judged_after, verdict_call, verdict_of}
 use Rattle.cmc_rules.specs.Causes.{IsFirstCall, IsSecretCall, IsStatusCall, IsNextCall, MayCall, IsCaused, act_of, after_of}
 use Rattle.cmc_rules.specs.Desks.{desk}
-use Rattle.cmc_rules.specs.Following.{Follows}
-use Rattle.cmc_rules.specs.Granting as granting
-use Rattle.cmc_rules.specs.Granting.{answered_after}
-use Rattle.cmc_rules.specs.KeyManaging as keys
-use Rattle.cmc_rules.specs.KeyManaging.{key_after, make_call}
+use Rattle.cmc_rules.specs.UserSteps.{Follows}
+use Rattle.cmc_rules.specs.Issuer as granting
+use Rattle.cmc_rules.specs.Issuer.{answered_after}
+use Rattle.cmc_rules.specs.KeyManager as keys
+use Rattle.cmc_rules.specs.KeyManager.{key_after, make_call}
 use Rattle.cmc_rules.specs.NextKeys.{named_key}
 use Rattle.cmc_rules.specs.Passes.{open_pass}
-use Rattle.cmc_rules.specs.RequestManaging as requests
-use Rattle.cmc_rules.specs.RequestManaging.{request_after, make_request}
+use Rattle.cmc_rules.specs.RequestManager as requests
+use Rattle.cmc_rules.specs.RequestManager.{request_after, make_request}
 use Rattle.cmc_rules.specs.UserWrites as user
 use Rattle.cmc_rules.specs.UserWrites.{verdict, answer_call, renew_call, manual_condition}
 use Rattle.cmc_rules.proofs.Sights.{seen_certificate}

@@ -6,10 +6,10 @@ use Rattle.std.proofs.lemmas.Bool.{and_parts}
 use Rattle.std.proofs.lemmas.Slice.Eq.{bytes_eq-Decides}
 use Rattle.cmc_meta.specs.PairLists.{text_by_key, with_text}
 use Rattle.cmc_der.specs.Keys.{PublicKey, CertificateFields}
-use Rattle.cmc_der.specs.Reading.{read_at}
+use Rattle.cmc_der.specs.Elements.{read_at}
 use Rattle.cmc_x509.specs.ReadKeys.{key_file_at, private_key_at, rsa_private_at, ec_private_at, private_key_info_at}
 use Rattle.cmc_x509.specs.ReadCertificates.{certificate_fields_at, signed_at}
-use Rattle.cmc_x509.specs.Taking.{only_at, take_at, value_at}
+use Rattle.cmc_x509.specs.Options.{only_at, take_at, value_at}
 use Rattle.cmc_objects.specs.declared.certificate.Certificate.{Certificate}
 use Rattle.cmc_objects.specs.declared.request.CertificateRequest.{CertificateRequest}
 use Rattle.cmc_objects.specs.declared.secret.Secret.{Secret}
@@ -24,7 +24,7 @@ use Rattle.cmc_answers.specs.Temporary.{temporary}
 use Rattle.cmc_objects.specs.Requests.{is_denied}
 use Rattle.cmc_match.specs.Marks.{asks_for_temporary, is_text, has_text, is_temporary}
 use Rattle.cmc_match.specs.Facts.{key_in, certificate_file_in, fits, pair_in, is_non_empty, is_filled, names_issuer, names_owner, is_absent_or, has_requested_key, is_unchanged, known_for}
-use Rattle.cmc_match.specs.Matching.{matches, has_key}
+use Rattle.cmc_match.specs.Matches.{matches, has_key}
 use Rattle.cmc_match.specs.Revisions.{next_request}
 use Rattle.cmc_pass.specs.declared.pass.Views.{Views}
 use Rattle.cmc_pass.specs.declared.pass.Act.{Act}
@@ -32,8 +32,8 @@ use Rattle.cmc_pass.specs.declared.pass.Act.TheVariants.{Nothing, Issue, Tempora
 use Rattle.cmc_pass.specs.declared.pass.IssuePlan.{IssuePlan}
 use Rattle.cmc_rules.specs.NextRequests.{is_wanted, is_refused}
 use Rattle.cmc_rules.specs.Chains.{trigger_chain, trigger_reason}
-use Rattle.cmc_rules.specs.Triggering.{trigger, for_certificate, for_reason, is_issuing, frame_of}
-use Rattle.cmc_rules.specs.Issuing.{issuing, with_wanted, while_waiting, temporary_with, temporary_plan, is_granted, is_certified, is_some_pair, is_kept_for_keys, lacks_certificate, failure, fails_now, refusal, issue_plan, secret_call, new_target, old_target, filled, with_ca, marks, signed_marks, issued_status}
+use Rattle.cmc_rules.specs.Trigger.{trigger, for_certificate, for_reason, is_issuing, frame_of}
+use Rattle.cmc_rules.specs.Issuance.{issuing, with_wanted, while_waiting, temporary_with, temporary_plan, is_granted, is_certified, is_some_pair, is_kept_for_keys, lacks_certificate, failure, fails_now, refusal, issue_plan, secret_call, new_target, old_target, filled, with_ca, marks, signed_marks, issued_status}
 use Rattle.cmc_issuing.proofs.PairLists.{is_name, put_stands, put_beside, out_of, out_beside}
 use Rattle.cmc_run_laws.specs.Issuances.{IsAsWritten, IsNotDue, certificate_restated, with_certificate, with_secret}
 use Rattle.cmc_run_laws.proofs.Going.{acts, going, going_is}

@@ -16,9 +16,9 @@ use Rattle.cmc_rules.specs.declared.progress.Stage.TheVariants.{Fresh, Asked, Gi
 use Rattle.cmc_rules.specs.Acts.{act, call_after}
 use Rattle.cmc_rules.specs.Causes.{IsFirstCall, IsNextCall, IsSecretCall, IsStatusCall}
 use Rattle.cmc_rules.specs.Desks.{desk}
-use Rattle.cmc_rules.specs.Issuing.{issuing}
+use Rattle.cmc_rules.specs.Issuance.{issuing}
 use Rattle.cmc_rules.specs.Passes.{stage_written, is_temporary_act}
-use Rattle.cmc_rules.specs.Sighting.{IsWellSeen}
+use Rattle.cmc_rules.specs.SeenObjects.{IsWellSeen}
 use Rattle.cmc_rules.specs.Sound.{IsWithin}
 use Rattle.cmc_rules.proofs.Sighted.{AreKnown, views_known}
 use Rattle.cmc_rules.proofs.WellSeen.{views_well}

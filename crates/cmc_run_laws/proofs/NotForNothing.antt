@@ -6,11 +6,11 @@ use Rattle.cmc_objects.specs.declared.entry.Entry.TheVariants.{Begin}
 use Rattle.cmc_objects.specs.Requests.{is_run_time}
 use Rattle.cmc_model.specs.Histories.{Setting}
 use Rattle.cmc_rules.specs.Causes.{IsCaused}
-use Rattle.cmc_rules.specs.Following.{Follows}
+use Rattle.cmc_rules.specs.UserSteps.{Follows}
 use Rattle.cmc_rules.specs.Legality.{IsLegal}
 use Rattle.cmc_rules.specs.Runs.{IsRun}
 use Rattle.cmc_rules.specs.Safety.{HasEntry}
-use Rattle.cmc_rules.specs.Viewing.{views}
+use Rattle.cmc_rules.specs.Views.{views}
 use Rattle.cmc_model.specs.Writes.{writes}
 use Rattle.cmc_rules.proofs.Positions.{accepted_short}
 use Rattle.cmc_rules.proofs.Sighted.{views_known}

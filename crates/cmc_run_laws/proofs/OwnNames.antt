@@ -7,9 +7,9 @@ use Rattle.std.specs.List.{cons_option}
 use Rattle.std.specs.Str.{bytes_eq}
 use Rattle.std.specs.Net.Addr.{octets_of}
 use Rattle.std.specs.Net.Grammar.{IsColonHex, IsElided}
-use Rattle.cmc_der.specs.Building.{value}
+use Rattle.cmc_der.specs.Builders.{value}
 use Rattle.cmc_der.proofs.SmallValues.{IsSmall, front_small, back_small, value_last}
-use Rattle.cmc_x509.specs.Taking.{Value}
+use Rattle.cmc_x509.specs.Options.{Value}
 use Rattle.cmc_x509.specs.Lists.{IsValues}
 use Rattle.cmc_x509_build.specs.Addresses.{IsAddress, address_at}
 use Rattle.cmc_x509_build.specs.Octets.{address_octets, address_value}
@@ -21,7 +21,7 @@ use Rattle.cmc_objects.specs.declared.certificate.CertSpec.{CertSpec}
 use Rattle.cmc_match.specs.Sets.{is_among, is_within, is_same_set}
 use Rattle.cmc_match.specs.SubjectNames.{common_text, names_tagged, is_address, addresses, values_of, addresses_written, has_names}
 use Rattle.cmc_match.proofs.NameLaws.{values_are}
-use Rattle.cmc_rules.specs.RequestManaging.{name_set}
+use Rattle.cmc_rules.specs.RequestManager.{name_set}
 
 -- ---- a list has the same texts as itself
 

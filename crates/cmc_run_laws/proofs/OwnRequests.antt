@@ -2,7 +2,7 @@
 use Rattle.std.proofs.Common.{◌≡◌, ℕ, ℤ, ◌≤◌, List, [], ◌∷◌, ◌++◌, length, Option, Some, None, Bool, true, false, refl, sym, ap, subst, ◌∙◌}
 use Rattle.std.proofs.lemmas.Bool.Decides.{Decides-eqb}
 use Rattle.std.specs.Prelude.{if◌then◌else◌}
-use Rattle.cmc_der.specs.Building.{value}
+use Rattle.cmc_der.specs.Builders.{value}
 use Rattle.cmc_der.specs.Keys.{PublicKey, RequestFields}
 use Rattle.cmc_der.proofs.SmallValues.{IsSmall, contents_small, front_small, back_small}
 use Rattle.cmc_x509.specs.Certificates.{IsRequest}
@@ -35,7 +35,7 @@ use Rattle.cmc_keys.specs.Kinds.{is_key_of}
 use Rattle.cmc_keys.specs.Values.{IsKeyValue}
 use Rattle.cmc_keys.proofs.KindLaws.{is_key_means}
 use Rattle.cmc_match.specs.Facts.{fits, key_in}
-use Rattle.cmc_match.specs.Matching.{HasKey, asks_for_names, has_key, has_terms, is_same_flag, is_same_issuer, matches}
+use Rattle.cmc_match.specs.Matches.{HasKey, asks_for_names, has_key, has_terms, is_same_flag, is_same_issuer, matches}
 use Rattle.cmc_match.proofs.MatchLaws.{keys_match}
 use Rattle.cmc_pass.specs.declared.pass.Act.{Act}
 use Rattle.cmc_pass.specs.declared.pass.Act.TheVariants.{Nothing, Call as Calls, Ask as Asks}
@@ -45,12 +45,12 @@ use Rattle.cmc_pass.specs.Values.{IsValue}
 use Rattle.cmc_pass.specs.declared.value.Value.{Value}
 use Rattle.cmc_pass.specs.declared.value.Value.TheVariants.{Made, Signed}
 use Rattle.cmc_rules.specs.Acts.{act, call_after}
-use Rattle.cmc_rules.specs.KeyManaging as keys
-use Rattle.cmc_rules.specs.KeyManaging.{ask_key, drop_call, key_manager, key_order, make_call, name_call}
+use Rattle.cmc_rules.specs.KeyManager as keys
+use Rattle.cmc_rules.specs.KeyManager.{ask_key, drop_call, key_manager, key_order, make_call, name_call}
 use Rattle.cmc_rules.specs.NextKeys.{named_key}
 use Rattle.cmc_rules.specs.NextRequests.{is_wanted}
-use Rattle.cmc_rules.specs.RequestManaging.{body_of, make_request, name_set, new_request, request_after, request_from, request_spec, signed_by, signed_for, signed_in, signed_with}
-use Rattle.cmc_rules.specs.Triggering as triggering
+use Rattle.cmc_rules.specs.RequestManager.{body_of, make_request, name_set, new_request, request_after, request_from, request_spec, signed_by, signed_for, signed_in, signed_with}
+use Rattle.cmc_rules.specs.Trigger as triggering
 use Rattle.cmc_run_laws.proofs.OwnNames.{and_two, itself, names_again, same_itself}
 
 -- ---- what the request asks for besides its names

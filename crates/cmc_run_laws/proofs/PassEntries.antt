@@ -23,7 +23,7 @@ use Rattle.cmc_rules.specs.declared.progress.Stage.{Stage}
 use Rattle.cmc_rules.specs.declared.progress.OpenPass.{OpenPass}
 use Rattle.cmc_rules.specs.Acts.{act, call_after}
 use Rattle.cmc_rules.specs.Desks.{desk}
-use Rattle.cmc_rules.specs.Viewing.{views}
+use Rattle.cmc_rules.specs.Views.{views}
 use Rattle.cmc_rules.specs.Passes.{open_pass, called, unless_of}
 use Rattle.cmc_rules.specs.Legality.{IsLegal, IsLegalEntry, IsOpen}
 use Rattle.cmc_safety.specs.Courses.{is_entry_of, Placed, course_of, IsEnding, lets_on, AreCalls, IsFollowing, IsAnswering, IsAsking, IsCourseBy, IsCourse, HaveCourses}

@@ -26,23 +26,23 @@ use Rattle.cmc_summary.specs.declared.summary.WaitName.TheVariants as names
 use Rattle.cmc_pass.specs.declared.pass.Act.TheVariants.{Nothing, Call as Calls}
 use Rattle.cmc_pass.specs.declared.pass.Desk.{Desk}
 use Rattle.cmc_match.specs.Facts.{fits}
-use Rattle.cmc_match.specs.Matching.{matches, has_terms, is_same_issuer}
+use Rattle.cmc_match.specs.Matches.{matches, has_terms, is_same_issuer}
 use Rattle.cmc_match.specs.Revisions.{next_request}
 use Rattle.cmc_model.specs.Objects.{object_at}
 use Rattle.cmc_model.specs.Histories.{Setting, moment, objects}
 use Rattle.cmc_rules.specs.Acts.{act}
-use Rattle.cmc_rules.specs.Approving.{approver, ask_judgement, is_covered, is_listed_issuer, judge_of, judge_one}
+use Rattle.cmc_rules.specs.Approver.{approver, ask_judgement, is_covered, is_listed_issuer, judge_of, judge_one}
 use Rattle.cmc_rules.specs.Desks.{desk}
-use Rattle.cmc_rules.specs.Granting.{ask_issuer, denied_status, gives, grant_one, is_own, is_request_waiting, status_call}
-use Rattle.cmc_rules.specs.Issuing.{is_kept_for_keys, issuing_of, says_issued}
-use Rattle.cmc_rules.specs.KeyManaging.{ask_key, make_call, rotated, target_key, while_idle, while_issuing}
+use Rattle.cmc_rules.specs.Issuer.{ask_issuer, denied_status, gives, grant_one, is_own, is_request_waiting, status_call}
+use Rattle.cmc_rules.specs.Issuance.{is_kept_for_keys, issuing_of, says_issued}
+use Rattle.cmc_rules.specs.KeyManager.{ask_key, make_call, rotated, target_key, while_idle, while_issuing}
 use Rattle.cmc_rules.specs.NextKeys.{named_key}
 use Rattle.cmc_rules.specs.NextRequests.{is_wanted}
-use Rattle.cmc_rules.specs.RequestManaging as managing
-use Rattle.cmc_rules.specs.Resting.{IsAtRest, IsIdle}
+use Rattle.cmc_rules.specs.RequestManager as managing
+use Rattle.cmc_rules.specs.Rest.{IsAtRest, IsIdle}
 use Rattle.cmc_rules.specs.Runs.{IsRun}
-use Rattle.cmc_rules.specs.Triggering.{is_issuing}
-use Rattle.cmc_rules.specs.Viewing.{certificate_at, next_of, present_views, request_at, request_in, requests_of, target_at, views_in, views_of}
+use Rattle.cmc_rules.specs.Trigger.{is_issuing}
+use Rattle.cmc_rules.specs.Views.{certificate_at, next_of, present_views, request_at, request_in, requests_of, target_at, views_in, views_of}
 use Rattle.cmc_plain.specs.Waits.{is_stopped, is_unanswered, wait_of_request}
 use Rattle.cmc_plain.proofs.EachNamed.{still}
 use Rattle.cmc_plain.proofs.EachWait.{IsStill, issuer_rests, issuing_rests, keys_rest, owned_stands, request_waits_on, requests_rest}

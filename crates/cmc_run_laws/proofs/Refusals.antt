@@ -19,7 +19,7 @@ use Rattle.cmc_objects.specs.declared.role.Role.TheVariants as roles
 use Rattle.cmc_objects.specs.declared.entry.Entry.{Entry}
 use Rattle.cmc_objects.specs.declared.entry.Positions.{Positions}
 use Rattle.cmc_objects.specs.Objects.{key_of, name_of, version_of}
-use Rattle.cmc_objects.specs.Watching.{looks_at_secret}
+use Rattle.cmc_objects.specs.Informers.{looks_at_secret}
 use Rattle.cmc_pass.specs.declared.pass.Views.{Views}
 use Rattle.cmc_pass.specs.declared.pass.Act.{Act}
 use Rattle.cmc_model.specs.Admission.{is_taken, refusing_rule}
@@ -35,15 +35,15 @@ use Rattle.cmc_rules.specs.declared.progress.Stage.TheVariants.{Fresh, Asked, Gi
 use Rattle.cmc_rules.specs.Acts.{call_after}
 use Rattle.cmc_rules.specs.Causes.{act_of, after_of, IsNextCall, IsSecretCall}
 use Rattle.cmc_rules.specs.Desks.{desk}
-use Rattle.cmc_rules.specs.Issuing.{issuing, secret_call, new_target}
+use Rattle.cmc_rules.specs.Issuance.{issuing, secret_call, new_target}
 use Rattle.cmc_rules.specs.Legality.{IsLegal}
 use Rattle.cmc_rules.specs.Passes.{is_as_seen, stage_after, stage_by, stage_read, stage_written, is_temporary_act}
 use Rattle.cmc_rules.specs.Positions.{cache, position_of, positions}
 use Rattle.cmc_rules.specs.Safety.{IsStatusUpdate}
 use Rattle.cmc_rules.specs.Sameness.{IsStillBehind}
-use Rattle.cmc_rules.specs.Sighting.{IsPart, OnSeen}
+use Rattle.cmc_rules.specs.SeenObjects.{IsPart, OnSeen}
 use Rattle.cmc_rules.specs.Sound.{IsWriteAfterValue, IsMarked, IsOrdinary, IsRaiseOf, IsSigned, IsWithin, WritesTarget}
-use Rattle.cmc_rules.specs.Viewing.{caches, views}
+use Rattle.cmc_rules.specs.Views.{caches, views}
 use Rattle.cmc_rules.proofs.Seen.{seen_is_version}
 use Rattle.cmc_rules.proofs.Versions.{version_keyed}
 use Rattle.cmc_store_laws.specs.Names.{IsFresh}

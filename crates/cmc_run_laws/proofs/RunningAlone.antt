@@ -20,7 +20,7 @@ use Rattle.cmc_objects.specs.declared.entry.Who.TheVariants.{User, Pass}
 use Rattle.cmc_objects.specs.declared.entry.Entry.{Entry}
 use Rattle.cmc_objects.specs.declared.entry.Entry.TheVariants.{Script, Call as Called, Deliver, List as Listed, Begin, Ask, Made, Signed, Answered, Judged, End, Stop, Start, Tick}
 use Rattle.cmc_objects.specs.Objects.{key_of, version_of}
-use Rattle.cmc_objects.specs.Watching.{looks_at_secret}
+use Rattle.cmc_objects.specs.Informers.{looks_at_secret}
 use Rattle.cmc_pass.specs.declared.pass.Views.{Views}
 use Rattle.cmc_pass.specs.declared.pass.Act.{Act}
 use Rattle.cmc_pass.specs.declared.value.Value.{Value}
@@ -34,19 +34,19 @@ use Rattle.cmc_rules.specs.declared.effect.Effect.TheVariants as effects
 use Rattle.cmc_rules.specs.declared.progress.OpenPass.{OpenPass}
 use Rattle.cmc_rules.specs.declared.progress.Stage.{Stage}
 use Rattle.cmc_rules.specs.declared.progress.Stage.TheVariants.{Fresh, Asked, Given, Read, Saved, Wrote, Refused, Barred}
-use Rattle.cmc_rules.specs.Viewing.{views, present_views}
+use Rattle.cmc_rules.specs.Views.{views, present_views}
 use Rattle.cmc_rules.specs.Acts.{call_after}
 use Rattle.cmc_rules.specs.Desks.{desk}
-use Rattle.cmc_rules.specs.Issuing.{issuing}
+use Rattle.cmc_rules.specs.Issuance.{issuing}
 use Rattle.cmc_rules.specs.Origins.{begun}
 use Rattle.cmc_rules.specs.Positions.{position, positions}
 use Rattle.cmc_rules.specs.Passes.{open_pass, gone_on, is_as_seen, new_pass, stage_after, stage_by, stage_given, stage_read, stage_written, is_temporary_act, unless_of, with_stage}
 use Rattle.cmc_rules.specs.Legality.{IsLegal, IsOpen}
 use Rattle.cmc_rules.specs.Causes.{act_of, after_of, AsksBy, IsCaused, IsGivenBy, IsNextCall, IsSecretCall, MayAsk, MayCall, MayGive}
 use Rattle.cmc_rules.specs.Runs.{IsRun}
-use Rattle.cmc_rules.specs.Scripting.{scripted}
+use Rattle.cmc_rules.specs.Scripts.{scripted}
 use Rattle.cmc_rules.specs.Safety.{IsStatusUpdate}
-use Rattle.cmc_rules.specs.Sighting.{IsPart, OnSeen}
+use Rattle.cmc_rules.specs.SeenObjects.{IsPart, OnSeen}
 use Rattle.cmc_rules.specs.Sound.{IsWriteAfterValue, IsMarked, IsOrdinary, IsRaiseOf, IsSigned, IsWithin, WritesTarget}
 use Rattle.cmc_rules.proofs.Positions.{accepted_short}
 use Rattle.cmc_safety.proofs.Course.{within_act}

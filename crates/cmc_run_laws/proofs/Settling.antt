@@ -13,10 +13,10 @@ use Rattle.cmc_summary.specs.declared.summary.WaitName.{WaitName}
 use Rattle.cmc_summary.specs.declared.summary.WaitName.TheVariants.{Stopped}
 use Rattle.cmc_model.specs.Objects.{object_at}
 use Rattle.cmc_model.specs.Histories.{Setting, moment, objects}
-use Rattle.cmc_rules.specs.Resting.{IsAtRest}
+use Rattle.cmc_rules.specs.Rest.{IsAtRest}
 use Rattle.cmc_rules.specs.Runs.{IsRun}
-use Rattle.cmc_rules.specs.Triggering.{is_issuing}
-use Rattle.cmc_rules.specs.Viewing.{certificate_in, certificate_at, target_at, requests_of, views_of, views_in, present_views}
+use Rattle.cmc_rules.specs.Trigger.{is_issuing}
+use Rattle.cmc_rules.specs.Views.{certificate_in, certificate_at, target_at, requests_of, views_of, views_in, present_views}
 use Rattle.cmc_plain.specs.Waits.{is_stopped, wait_of, wait_of_seen, wait_in}
 use Rattle.cmc_plain.proofs.EachNamed.{each_named, still}
 use Rattle.cmc_plain.proofs.EachWait.{trigger_rests, readiness_rests}

@@ -19,10 +19,10 @@ use Rattle.cmc_model.specs.Histories.{Setting, accepted, moment, state}
 use Rattle.cmc_model.specs.Writes.{is_known, write_of, writes}
 use Rattle.cmc_model.proofs.Writes.{writes_count}
 use Rattle.cmc_rules.specs.declared.effect.Effect.{Effect}
-use Rattle.cmc_rules.specs.Following.{Follows, owed}
+use Rattle.cmc_rules.specs.UserSteps.{Follows, owed}
 use Rattle.cmc_rules.specs.Legality.{IsLegal, IsLegalEntry}
 use Rattle.cmc_rules.specs.Runs.{IsRun}
-use Rattle.cmc_rules.specs.Scripting.{scripted}
+use Rattle.cmc_rules.specs.Scripts.{scripted}
 use Rattle.cmc_world.proofs.AtRest.{key_eq-refl, same_key}
 use Rattle.cmc_plain.specs.Waits.{all_roles}
 use Rattle.cmc_run_laws.specs.Begins.{count_of, is_accepted_or_failed}

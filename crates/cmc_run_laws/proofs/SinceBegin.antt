@@ -21,7 +21,7 @@ use Rattle.cmc_objects.specs.declared.entry.Who.TheVariants.{User, Pass}
 use Rattle.cmc_objects.specs.declared.entry.Entry.{Entry}
 use Rattle.cmc_objects.specs.declared.entry.Entry.TheVariants.{Script, Call as Called, Deliver, List as Listed, Begin, Ask, Made, Signed, Answered, Judged, End, Stop, Start, Tick}
 use Rattle.cmc_objects.specs.Objects.{version_of}
-use Rattle.cmc_objects.specs.Watching.{has_informer}
+use Rattle.cmc_objects.specs.Informers.{has_informer}
 use Rattle.cmc_pass.specs.declared.pass.Act.{Act}
 use Rattle.cmc_pass.specs.declared.pass.Act.TheVariants.{Nothing, Call as Calls, Ask as Asks, Issue, Temporary}
 use Rattle.cmc_pass.specs.declared.pass.Desk.{Desk}
@@ -41,7 +41,7 @@ use Rattle.cmc_rules.specs.declared.progress.Stage.TheVariants.{Fresh, Asked, Gi
 use Rattle.cmc_rules.specs.Acts.{act, call_after}
 use Rattle.cmc_rules.specs.Causes.{act_of, after_of, AsksBy, EndsBy, IsAsked, IsCaused, IsCausedEntry, IsNextCall, MayAsk, MayCall, MayEnd}
 use Rattle.cmc_rules.specs.Desks.{desk}
-use Rattle.cmc_rules.specs.Issuing.{issuing}
+use Rattle.cmc_rules.specs.Issuance.{issuing}
 use Rattle.cmc_rules.specs.Legality.{IsLegal, IsLegalEntry}
 use Rattle.cmc_rules.specs.Memory.{ending_at, ending_of, no_past, past, with_begin, with_ending, with_own}
 use Rattle.cmc_rules.specs.Origins.{begun}
@@ -50,7 +50,7 @@ use Rattle.cmc_rules.specs.Positions.{position, positions}
 use Rattle.cmc_rules.specs.Safety.{HasEntry}
 use Rattle.cmc_rules.specs.Sound.{IsWithin}
 use Rattle.cmc_rules.specs.Sameness.{EndsAlike, IsSame}
-use Rattle.cmc_rules.specs.Viewing.{views, views_in}
+use Rattle.cmc_rules.specs.Views.{views, views_in}
 use Rattle.cmc_rules.proofs.Positions.{views_called}
 use Rattle.cmc_safety.proofs.Course.{within_act}
 use Rattle.cmc_safety.proofs.InProgress.{caller_of}

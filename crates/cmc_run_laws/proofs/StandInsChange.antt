@@ -27,12 +27,12 @@ use Rattle.cmc_pass.specs.declared.pass.Views.{Views}
 use Rattle.cmc_pass.specs.declared.pass.Act.{Act}
 use Rattle.cmc_pass.specs.declared.pass.Act.TheVariants.{Nothing, Issue, Temporary}
 use Rattle.cmc_pass.specs.declared.pass.TemporaryPlan.{TemporaryPlan}
-use Rattle.cmc_rules.specs.Issuing.{issuing, issuing_of, with_key_of, with_file, with_request, with_wanted, with_granted, while_waiting, temporary_with, temporary_plan, is_granted, is_certified, is_kept_for_keys, lacks_certificate, lacks_pair, is_of_file, failure, fails_now, refusal, issue_plan, secret_call, new_target, old_target, filled}
+use Rattle.cmc_rules.specs.Issuance.{issuing, issuing_of, with_key_of, with_file, with_request, with_wanted, with_granted, while_waiting, temporary_with, temporary_plan, is_granted, is_certified, is_kept_for_keys, lacks_certificate, lacks_pair, is_of_file, failure, fails_now, refusal, issue_plan, secret_call, new_target, old_target, filled}
 use Rattle.cmc_rules.specs.NextKeys.{named_key}
 use Rattle.cmc_rules.specs.NextRequests.{is_refused, is_wanted}
-use Rattle.cmc_rules.specs.Sighting.{IsPart, ForSeen, OnSeen}
+use Rattle.cmc_rules.specs.SeenObjects.{IsPart, ForSeen, OnSeen}
 use Rattle.cmc_rules.specs.Sound.{IsMarked, IsTemporaryPlan, WritesTarget}
-use Rattle.cmc_rules.specs.Triggering.{is_issuing}
+use Rattle.cmc_rules.specs.Trigger.{is_issuing}
 use Rattle.cmc_rules.proofs.Lines.{by_test}
 use Rattle.cmc_run_laws.proofs.IdleCalls.{ChangesSeen}
 use Rattle.cmc_run_laws.proofs.Issued.{filled_key, filled_certificate, secret_pair}

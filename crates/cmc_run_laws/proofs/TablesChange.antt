@@ -32,24 +32,24 @@ use Rattle.cmc_pass.specs.declared.pass.Desk.{Desk}
 use Rattle.cmc_pass.specs.declared.pass.Act.{Act}
 use Rattle.cmc_pass.specs.declared.pass.Act.TheVariants.{Nothing, Call as Calls, Issue, Temporary}
 use Rattle.cmc_rules.specs.Acts.{act}
-use Rattle.cmc_rules.specs.Triggering as triggering
-use Rattle.cmc_rules.specs.KeyManaging as keys
-use Rattle.cmc_rules.specs.RequestManaging as requests
-use Rattle.cmc_rules.specs.Approving as approving
-use Rattle.cmc_rules.specs.Granting as granting
-use Rattle.cmc_rules.specs.Issuing as issuance
-use Rattle.cmc_rules.specs.Readying as readying
-use Rattle.cmc_rules.specs.Revising as revising
+use Rattle.cmc_rules.specs.Trigger as triggering
+use Rattle.cmc_rules.specs.KeyManager as keys
+use Rattle.cmc_rules.specs.RequestManager as requests
+use Rattle.cmc_rules.specs.Approver as approving
+use Rattle.cmc_rules.specs.Issuer as granting
+use Rattle.cmc_rules.specs.Issuance as issuance
+use Rattle.cmc_rules.specs.Readiness as readying
+use Rattle.cmc_rules.specs.RevisionManager as revising
 use Rattle.cmc_rules.specs.NextKeys.{has_fitting_key, is_named, named_key}
 use Rattle.cmc_rules.specs.NextRequests.{is_refused, is_wanted, next_requests}
-use Rattle.cmc_rules.specs.Triggering.{trigger, for_certificate, for_reason, issue_call, issuing_condition, issuing_status, with_issuing}
-use Rattle.cmc_rules.specs.KeyManaging.{key_manager, name_call, drop_call, ask_key, make_call}
-use Rattle.cmc_rules.specs.RequestManaging.{request_manager, ask_signature}
-use Rattle.cmc_rules.specs.Approving.{approver, ask_judgement}
-use Rattle.cmc_rules.specs.Granting.{issuer, ask_issuer, denied_condition, denied_status}
-use Rattle.cmc_rules.specs.Issuing.{issuing, ended_condition, failed_status, issued_status, failure, issue_plan, temporary_plan, secret_call}
-use Rattle.cmc_rules.specs.Readying.{readiness, is_settled, ready_call, ready_condition, ready_status}
-use Rattle.cmc_rules.specs.Revising.{revise, delete_call, delete_of}
+use Rattle.cmc_rules.specs.Trigger.{trigger, for_certificate, for_reason, issue_call, issuing_condition, issuing_status, with_issuing}
+use Rattle.cmc_rules.specs.KeyManager.{key_manager, name_call, drop_call, ask_key, make_call}
+use Rattle.cmc_rules.specs.RequestManager.{request_manager, ask_signature}
+use Rattle.cmc_rules.specs.Approver.{approver, ask_judgement}
+use Rattle.cmc_rules.specs.Issuer.{issuer, ask_issuer, denied_condition, denied_status}
+use Rattle.cmc_rules.specs.Issuance.{issuing, ended_condition, failed_status, issued_status, failure, issue_plan, temporary_plan, secret_call}
+use Rattle.cmc_rules.specs.Readiness.{readiness, is_settled, ready_call, ready_condition, ready_status}
+use Rattle.cmc_rules.specs.RevisionManager.{revise, delete_call, delete_of}
 use Rattle.cmc_rules.proofs.Lines.{by_test}
 use Rattle.cmc_safety.proofs.Kept.{Any, Brings, OnStatus}
 use Rattle.cmc_run_laws.proofs.IdleCalls.{ChangesSeen, restates_certificate, restates_request}

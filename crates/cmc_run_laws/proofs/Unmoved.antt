@@ -14,7 +14,7 @@ use Rattle.cmc_objects.specs.declared.object.Object.{Object}
 use Rattle.cmc_objects.specs.declared.role.Role.{Role}
 use Rattle.cmc_objects.specs.declared.entry.Entry.{Entry}
 use Rattle.cmc_objects.specs.Objects.{key_of, version_of}
-use Rattle.cmc_objects.specs.Watching.{has_informer}
+use Rattle.cmc_objects.specs.Informers.{has_informer}
 use Rattle.cmc_model.specs.declared.write.Write.{Write}
 use Rattle.cmc_model.specs.Objects.{Objects, no_objects, object_at}
 use Rattle.cmc_model.specs.Histories.{Setting, objects}
@@ -23,7 +23,7 @@ use Rattle.cmc_model.proofs.Versions.{IsLawful, lawful_object, object_at-put}
 use Rattle.cmc_model.proofs.Writes.{writes_leave}
 use Rattle.cmc_rules.specs.Legality.{IsLegal}
 use Rattle.cmc_rules.specs.Positions.{position, positions, position_of, cache}
-use Rattle.cmc_rules.specs.Viewing.{caches, views}
+use Rattle.cmc_rules.specs.Views.{caches, views}
 use Rattle.cmc_rules.proofs.Seen.{seen_is_version}
 use Rattle.cmc_rules.proofs.Versions.{lawful, version_keyed}
 use Rattle.cmc_world.proofs.AtRest.{key_eq-refl, same_key, same_kind}

@@ -23,7 +23,7 @@ use Rattle.cmc_meta.specs.ConditionLists.{condition_at, kept_since, transitioned
 use Rattle.cmc_answers.specs.declared.denial.Denial.{Denial}
 use Rattle.cmc_objects.specs.declared.orders.Signing.{Signing}
 use Rattle.cmc_objects.specs.declared.orders.Signing.TheVariants as signings
-use Rattle.cmc_answers.specs.Judging.{denial_of}
+use Rattle.cmc_answers.specs.Denials.{denial_of}
 use Rattle.cmc_pass.specs.declared.pass.Views.{Views}
 use Rattle.cmc_pass.specs.declared.pass.Desk.{Desk}
 use Rattle.cmc_pass.specs.declared.pass.Act.{Act}
@@ -31,16 +31,16 @@ use Rattle.cmc_pass.specs.declared.pass.Act.TheVariants.{Nothing, Call as Calls,
 use Rattle.cmc_pass.specs.declared.value.Value.{Value}
 use Rattle.cmc_pass.specs.declared.value.Value.TheVariants as values
 use Rattle.cmc_rules.specs.Acts.{act, call_after}
-use Rattle.cmc_rules.specs.Answering.{answered, issued_condition, pending_condition, failed_condition}
-use Rattle.cmc_rules.specs.Approving as approving
-use Rattle.cmc_rules.specs.Approving.{approver, judged_after, ask_judgement, verdict_call, judged_status, approval, denied_for, verdict_by, verdict_on, verdict_of}
-use Rattle.cmc_rules.specs.Granting as granting
-use Rattle.cmc_rules.specs.Granting.{issuer, answered_after, ask_issuer}
-use Rattle.cmc_rules.specs.KeyManaging as keys
-use Rattle.cmc_rules.specs.KeyManaging.{key_after, make_call}
+use Rattle.cmc_rules.specs.IssuerAnswers.{answered, issued_condition, pending_condition, failed_condition}
+use Rattle.cmc_rules.specs.Approver as approving
+use Rattle.cmc_rules.specs.Approver.{approver, judged_after, ask_judgement, verdict_call, judged_status, approval, denied_for, verdict_by, verdict_on, verdict_of}
+use Rattle.cmc_rules.specs.Issuer as granting
+use Rattle.cmc_rules.specs.Issuer.{issuer, answered_after, ask_issuer}
+use Rattle.cmc_rules.specs.KeyManager as keys
+use Rattle.cmc_rules.specs.KeyManager.{key_after, make_call}
 use Rattle.cmc_rules.specs.NextKeys.{named_key}
-use Rattle.cmc_rules.specs.RequestManaging as requests
-use Rattle.cmc_rules.specs.RequestManaging.{request_after, make_request}
+use Rattle.cmc_rules.specs.RequestManager as requests
+use Rattle.cmc_rules.specs.RequestManager.{request_after, make_request}
 use Rattle.cmc_run_laws.proofs.IdleCalls.{ChangesSeen, restates_request}
 use Rattle.cmc_run_laws.proofs.NewConditions.{found_new, found_renewed, stated_new}
 

@@ -10,7 +10,7 @@ use Rattle.cmc_objects.specs.KeyPairs.{begins, ends}
 use Rattle.cmc_policies.specs.Renewal.{renewal}
 use Rattle.cmc_match.specs.Facts.{pair_in}
 use Rattle.cmc_pass.specs.declared.pass.Views.{Views}
-use Rattle.cmc_rules.specs.Triggering.{frame_of}
+use Rattle.cmc_rules.specs.Trigger.{frame_of}
 
 -- the Certificate with this status, at its new version
 abbrev pub certificate_restated : ℕ → CertStatus → Certificate → Certificate

@@ -12,11 +12,11 @@ use Rattle.cmc_pass.specs.declared.pass.Views.{Views}
 use Rattle.cmc_match.specs.Facts.{fits}
 use Rattle.cmc_match.specs.Revisions.{next_request}
 use Rattle.cmc_model.specs.Histories.{Setting, moment}
-use Rattle.cmc_rules.specs.Approving.{is_covered}
-use Rattle.cmc_rules.specs.Granting.{is_request_waiting}
-use Rattle.cmc_rules.specs.Issuing.{is_kept_for_keys}
-use Rattle.cmc_rules.specs.KeyManaging.{target_key}
-use Rattle.cmc_rules.specs.Triggering.{is_issuing, is_backing_off}
+use Rattle.cmc_rules.specs.Approver.{is_covered}
+use Rattle.cmc_rules.specs.Issuer.{is_request_waiting}
+use Rattle.cmc_rules.specs.Issuance.{is_kept_for_keys}
+use Rattle.cmc_rules.specs.KeyManager.{target_key}
+use Rattle.cmc_rules.specs.Trigger.{is_issuing, is_backing_off}
 use Rattle.cmc_plain.specs.Waits.{wait_of}
 
 -- it is not being issued, and its back-off has not ended

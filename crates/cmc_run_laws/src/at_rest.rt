@@ -7,9 +7,9 @@ ghost use Rattle.cmc_objects.specs.declared.entry.Entry.{Entry};
 ghost use Rattle.cmc_objects.specs.declared.role.Role.TheVariants.{Issuing};
 ghost use Rattle.cmc_objects.specs.Requests.{is_stated};
 ghost use Rattle.cmc_model.specs.Histories.{Setting, moment, objects};
-ghost use Rattle.cmc_rules.specs.Resting.{IsAtRest};
+ghost use Rattle.cmc_rules.specs.Rest.{IsAtRest};
 ghost use Rattle.cmc_rules.specs.Runs.{IsRun};
-ghost use Rattle.cmc_rules.specs.Viewing.{certificate_at, present_views};
+ghost use Rattle.cmc_rules.specs.Views.{certificate_at, present_views};
 ghost use Rattle.cmc_plain.specs.Waits.{is_stopped};
 ghost use Rattle.cmc_run_laws.specs.Settled.{CanBeIssued, IsReadyOrUnderWay};
 

@@ -7,8 +7,8 @@ ghost use Rattle.cmc_policies.specs.declared.renewal.Renew.{Renew};
 ghost use Rattle.cmc_pass.specs.declared.pass.Act.TheVariants.{Issue, Nothing};
 ghost use Rattle.cmc_pass.specs.declared.pass.IssuePlan.{IssuePlan};
 ghost use Rattle.cmc_pass.specs.declared.pass.Views.{Views};
-ghost use Rattle.cmc_rules.specs.Issuing.{failed_status, failure, issued_status, issuing};
-ghost use Rattle.cmc_rules.specs.Triggering.{trigger};
+ghost use Rattle.cmc_rules.specs.Issuance.{failed_status, failure, issued_status, issuing};
+ghost use Rattle.cmc_rules.specs.Trigger.{trigger};
 ghost use Rattle.cmc_run_laws.specs.Issuances.{IsAsWritten, IsNotDue, certificate_restated, with_certificate, with_secret};
 
 /// A law: a certificate of lifetime `life` that began `before` seconds ago is due for renewal exactly where `before` and

@@ -29,15 +29,15 @@ use Rattle.cmc_model.specs.Writes.{writes, last_under}
 use Rattle.cmc_rules.specs.declared.progress.OpenPass.{OpenPass}
 use Rattle.cmc_rules.specs.declared.progress.Stage.{Stage}
 use Rattle.cmc_rules.specs.declared.progress.Stage.TheVariants.{Fresh, Asked, Given, Read, Saved, Wrote, Refused, Barred}
-use Rattle.cmc_rules.specs.Viewing.{views}
-use Rattle.cmc_rules.specs.Issuing.{issuing}
+use Rattle.cmc_rules.specs.Views.{views}
+use Rattle.cmc_rules.specs.Issuance.{issuing}
 use Rattle.cmc_rules.specs.Passes.{open_pass, is_as_seen, new_pass, stage_read, stage_by, stage_after, stage_given, stage_written, is_temporary_act}
 use Rattle.cmc_rules.specs.Legality.{IsLegal}
 use Rattle.cmc_rules.specs.Causes.{IsCaused, MayCall}
-use Rattle.cmc_rules.specs.Sighting.{OnSeen}
+use Rattle.cmc_rules.specs.SeenObjects.{OnSeen}
 use Rattle.cmc_rules.proofs.Carrying.{over_call, over_ask, over_given, over_begin, over_end, over_stop}
 use Rattle.cmc_rules.proofs.Sighted.{AreKnown, stands_as_seen}
-use Rattle.cmc_safety.specs.Acting.{IsUnbarred, IsNotBarred, IsNotInvalid, IsNeverInvalid}
+use Rattle.cmc_safety.specs.MayAct.{IsUnbarred, IsNotBarred, IsNotInvalid, IsNeverInvalid}
 use Rattle.cmc_safety.proofs.NextCalls.{IsLiveCall}
 use Rattle.cmc_safety.proofs.Course.{AreSound}
 use Rattle.cmc_safety.proofs.InProgress.{IsCaller, caller_of}

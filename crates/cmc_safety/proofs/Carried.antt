@@ -17,8 +17,8 @@ use Rattle.cmc_model.specs.Versions.{IsVersion}
 use Rattle.cmc_model.specs.Writes.{writes, write_of}
 use Rattle.cmc_rules.specs.declared.effect.Effect.TheVariants as effects
 use Rattle.cmc_rules.specs.Legality.{IsLegal}
-use Rattle.cmc_rules.specs.Following.{owed, Follows}
-use Rattle.cmc_rules.specs.Sighting.{IsSeen}
+use Rattle.cmc_rules.specs.UserSteps.{owed, Follows}
+use Rattle.cmc_rules.specs.SeenObjects.{IsSeen}
 use Rattle.cmc_rules.proofs.Sighted.{AreKnown}
 use Rattle.cmc_rules.proofs.Versions.{stands_is_version}
 use Rattle.cmc_safety.specs.Formed.{IsFormed}

@@ -41,20 +41,20 @@ use Rattle.cmc_rules.specs.declared.progress.Stage.TheVariants.{Fresh, Asked, Gi
 use Rattle.cmc_rules.specs.Acts.{act}
 use Rattle.cmc_rules.specs.Causes.{act_of, after_of, IsNextCall, MayCall, AsksBy, MayAsk, IsGivenBy, MayGive, EndsBy, MayEnd, IsCausedEntry, IsCaused}
 use Rattle.cmc_rules.specs.Desks.{desk}
-use Rattle.cmc_rules.specs.Issuing.{issuing}
+use Rattle.cmc_rules.specs.Issuance.{issuing}
 use Rattle.cmc_rules.specs.Legality.{IsLegalEntry, IsLegal}
 use Rattle.cmc_rules.specs.Origins.{begun}
 use Rattle.cmc_rules.specs.Passes.{open_pass, is_as_seen, is_temporary_act, stage_read, stage_written, stage_after, stage_given, new_pass, with_stage, given}
-use Rattle.cmc_rules.specs.Raising.{RaisesRevision}
+use Rattle.cmc_rules.specs.Revisions.{RaisesRevision}
 use Rattle.cmc_rules.specs.Safety.{HasEntry, IsStatusUpdate, IsServedReply}
-use Rattle.cmc_rules.specs.Sighting.{OnSeen, IsWellSeen}
+use Rattle.cmc_rules.specs.SeenObjects.{OnSeen, IsWellSeen}
 use Rattle.cmc_rules.specs.Sound.{IsRaiseOf, IsSigned, IsMarked, WritesTarget}
-use Rattle.cmc_rules.specs.Viewing.{certificate_in, secret_in, certificate_at, target_at, views_of, views_in, views, present_views}
+use Rattle.cmc_rules.specs.Views.{certificate_in, secret_in, certificate_at, target_at, views_of, views_in, views, present_views}
 use Rattle.cmc_rules.proofs.Carrying.{over_end, over_stop}
 use Rattle.cmc_rules.proofs.Sighted.{AreKnown}
 use Rattle.cmc_rules.proofs.Versions.{stands_is_version, version_keyed}
 use Rattle.cmc_rules.proofs.WellSeen.{SawAll, saw_all, views_well}
-use Rattle.cmc_safety.specs.Completing.{IsApart, IsQuietEntry, AreQuiet, IsLeftAlone, IsUndisturbed, IsServedCall, IsCarriedOut, IsPlan, HasCompleted, CompletesIssuing}
+use Rattle.cmc_safety.specs.Completion.{IsApart, IsQuietEntry, AreQuiet, IsLeftAlone, IsUndisturbed, IsServedCall, IsCarriedOut, IsPlan, HasCompleted, CompletesIssuing}
 use Rattle.cmc_safety.proofs.Course.{AreSound, of_open, with_equation, over_own_entry, same_number}
 use Rattle.cmc_safety.proofs.Plans.{PlansFor, PlansOf, plans, act_of_issuing}
 use Rattle.cmc_safety.proofs.Undisturbed.{target_key, IsNamed, IsTargetCall, for_target, target_settled, target_called, keeps_at, AreThere, StandsAt, IsScene, GoesWell, well_more, longer, at_version, target_served}

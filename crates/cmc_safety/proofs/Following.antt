@@ -27,9 +27,9 @@ use Rattle.cmc_rules.specs.declared.progress.OpenPass.{OpenPass}
 use Rattle.cmc_rules.specs.declared.progress.Stage.{Stage}
 use Rattle.cmc_rules.specs.declared.progress.Stage.TheVariants.{Fresh, Asked, Given, Read, Saved, Wrote, Refused, Barred}
 use Rattle.cmc_rules.specs.Acts.{call_after}
-use Rattle.cmc_rules.specs.Issuing.{issuing}
+use Rattle.cmc_rules.specs.Issuance.{issuing}
 use Rattle.cmc_rules.specs.Desks.{desk}
-use Rattle.cmc_rules.specs.Viewing.{views}
+use Rattle.cmc_rules.specs.Views.{views}
 use Rattle.cmc_rules.specs.Passes.{open_pass, gone_on, is_as_seen, new_pass, stage_read, stage_written, stage_by, stage_after, stage_given, is_temporary_act}
 use Rattle.cmc_rules.specs.Legality.{IsLegal}
 use Rattle.cmc_rules.specs.Causes.{act_of, after_of, IsNextCall, MayCall, IsCaused}

@@ -30,7 +30,7 @@ use Rattle.cmc_model.specs.Replies.{key_of_call, settled}
 use Rattle.cmc_model.specs.Histories.{Setting, moment, objects}
 use Rattle.cmc_model.specs.Writes.{writes}
 use Rattle.cmc_rules.specs.Desks.{desk}
-use Rattle.cmc_rules.specs.Granting.{certificate_of, HasRequestForm, HasReplyRowForm}
+use Rattle.cmc_rules.specs.Issuer.{certificate_of, HasRequestForm, HasReplyRowForm}
 use Rattle.cmc_rules.specs.Rights.{MayChange, OfCertificates, OfRequests, IsLabelled}
 use Rattle.cmc_rules.specs.Sound.{IsOfCertificate}
 use Rattle.cmc_rules.specs.UserWrites.{judge_call, answer_call, renew_call}

@@ -24,7 +24,7 @@ use Rattle.cmc_pass.specs.declared.pass.Views.{Views}
 use Rattle.cmc_model.specs.declared.write.Write.{Write}
 use Rattle.cmc_model.specs.Objects.{Objects, object_at}
 use Rattle.cmc_model.specs.Replies.{IsReply, is_accepted, key_of_call, settled, stored}
-use Rattle.cmc_model.specs.Accepting.{IsFounded}
+use Rattle.cmc_model.specs.Acceptance.{IsFounded}
 use Rattle.cmc_model.specs.Histories.{Setting, moment, state, objects, accepted}
 use Rattle.cmc_model.specs.Versions.{IsVersion, HasVersion}
 use Rattle.cmc_model.specs.Writes.{writes, write_of, contents, last_under}
@@ -35,16 +35,16 @@ use Rattle.cmc_model.proofs.Writing.{IsCallOf}
 use Rattle.cmc_rules.specs.declared.progress.OpenPass.{OpenPass}
 use Rattle.cmc_rules.specs.declared.progress.Stage.{Stage}
 use Rattle.cmc_rules.specs.declared.progress.Stage.TheVariants.{Fresh, Asked, Given, Read, Saved, Wrote, Refused, Barred}
-use Rattle.cmc_objects.specs.Watching.{works_on_requests}
+use Rattle.cmc_objects.specs.Informers.{works_on_requests}
 use Rattle.cmc_rules.specs.Positions.{cache}
-use Rattle.cmc_rules.specs.Viewing.{certificate_in, certificate_at, views_of, views_in, views}
-use Rattle.cmc_rules.specs.Issuing.{issuing}
+use Rattle.cmc_rules.specs.Views.{certificate_in, certificate_at, views_of, views_in, views}
+use Rattle.cmc_rules.specs.Issuance.{issuing}
 use Rattle.cmc_rules.specs.Passes.{open_pass, called, gone_on, is_as_seen, is_temporary_act, stage_read, stage_written, stage_by, stage_after, stage_given, new_pass}
 use Rattle.cmc_rules.specs.Legality.{IsLegal}
 use Rattle.cmc_rules.specs.Causes.{MayCall, IsCaused}
-use Rattle.cmc_rules.specs.Following.{Follows}
-use Rattle.cmc_rules.specs.Raising.{revision, stated_in, revision_of_uid, KeepsRevision}
-use Rattle.cmc_rules.specs.Sighting.{OnSeen}
+use Rattle.cmc_rules.specs.UserSteps.{Follows}
+use Rattle.cmc_rules.specs.Revisions.{revision, stated_in, revision_of_uid, KeepsRevision}
+use Rattle.cmc_rules.specs.SeenObjects.{OnSeen}
 use Rattle.cmc_rules.specs.Sound.{IsOrdinary, IsWriteAfterValue, WritesTarget, IsSigned, IsMarked, IsRaiseOf}
 use Rattle.cmc_rules.proofs.Carrying.{over_call, over_ask, over_given, over_begin, over_end, over_stop}
 use Rattle.cmc_rules.proofs.Seen.{seen_is_version}

@@ -14,7 +14,7 @@ use Rattle.cmc_model.specs.Writes.{contents}
 use Rattle.cmc_model.specs.Versions.{uid_of, IsVersion}
 use Rattle.cmc_meta.proofs.KeyOrder.{key_cmp-total}
 use Rattle.cmc_model.proofs.Versions.{IsNew, IsHeir, IsLawful, lawful_object, standing, object_at-put, one_key}
-use Rattle.cmc_rules.specs.Raising.{stated_revision, stated_in, newer_of, last_version, revision_of_uid, KeepsRevision}
+use Rattle.cmc_rules.specs.Revisions.{stated_revision, stated_in, newer_of, last_version, revision_of_uid, KeepsRevision}
 
 number_is_own : (n : ℕ) → (n == n) ≡ true
 number_is_own n = (Decides-eqb n n).1 refl

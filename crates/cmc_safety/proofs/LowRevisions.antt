@@ -13,7 +13,7 @@ use Rattle.cmc_model.specs.Replies.{is_accepted, key_of_call, settled}
 use Rattle.cmc_model.specs.Histories.{Setting, moment, state, objects}
 use Rattle.cmc_model.specs.Writes.{writes, write_of}
 use Rattle.cmc_rules.specs.NextRequests.{HasNextRevision}
-use Rattle.cmc_rules.specs.Raising.{stated_revision, KeepsRevision, RaisesRevision}
+use Rattle.cmc_rules.specs.Revisions.{stated_revision, KeepsRevision, RaisesRevision}
 use Rattle.cmc_rules.proofs.Sights.{seen_certificate}
 use Rattle.cmc_rules.proofs.Sighted.{AreKnown}
 use Rattle.cmc_safety.specs.Formed.{IsFormed}

@@ -12,13 +12,13 @@ use Rattle.cmc_pass.specs.declared.pass.Views.{Views}
 use Rattle.cmc_model.specs.Histories.{Setting, moment}
 use Rattle.cmc_model.specs.Writes.{writes}
 use Rattle.cmc_rules.specs.declared.progress.OpenPass.{OpenPass}
-use Rattle.cmc_rules.specs.Viewing.{views}
+use Rattle.cmc_rules.specs.Views.{views}
 use Rattle.cmc_rules.specs.Desks.{asks_key, asks_issuer, asked, asked_before, desk}
 use Rattle.cmc_rules.specs.Passes.{open_pass}
 use Rattle.cmc_rules.specs.Runs.{IsRun}
 use Rattle.cmc_rules.proofs.Sighted.{AreKnown, SawKnown, saw_known, views_known}
 use Rattle.cmc_safety.specs.Formed.{IsFormed}
-use Rattle.cmc_safety.specs.Acting.{MayAct}
+use Rattle.cmc_safety.specs.MayAct.{MayAct}
 use Rattle.cmc_safety.proofs.Course.{AreSound, of_open}
 use Rattle.cmc_safety.proofs.InProgress.{IsPlayed}
 use Rattle.cmc_safety.proofs.Moments.{moment_in_run, BeganInRun, began_in_run}

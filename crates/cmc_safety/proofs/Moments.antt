@@ -17,11 +17,11 @@ use Rattle.cmc_rules.specs.declared.effect.Effect.{Effect}
 use Rattle.cmc_rules.specs.declared.effect.Effect.TheVariants as effects
 use Rattle.cmc_rules.specs.declared.progress.OpenPass.{OpenPass}
 use Rattle.cmc_model.specs.Histories.{Setting, moment, objects}
-use Rattle.cmc_rules.specs.Viewing.{views}
+use Rattle.cmc_rules.specs.Views.{views}
 use Rattle.cmc_rules.specs.Passes.{open_pass, new_pass, stage_after}
 use Rattle.cmc_rules.specs.Legality.{IsLegal}
-use Rattle.cmc_rules.specs.Scripting.{scripted, step_at}
-use Rattle.cmc_rules.specs.Following.{call_of, call_or, effect_of, owed, Follows}
+use Rattle.cmc_rules.specs.Scripts.{scripted, step_at}
+use Rattle.cmc_rules.specs.UserSteps.{call_of, call_or, effect_of, owed, Follows}
 use Rattle.cmc_rules.proofs.Carrying.{over_call, over_ask, over_given, over_begin, over_end, over_stop}
 use Rattle.cmc_setup.specs.Setups.{step_seconds, seconds_ticked}
 use Rattle.cmc_safety.specs.Formed.{IsFormed}

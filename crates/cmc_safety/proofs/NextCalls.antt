@@ -28,7 +28,7 @@ use Rattle.cmc_rules.specs.declared.progress.Stage.TheVariants.{Fresh, Asked, Gi
 use Rattle.cmc_rules.specs.Passes.{is_temporary_act, writes_temporary}
 use Rattle.cmc_rules.specs.Safety.{IsSecretWrite}
 use Rattle.cmc_rules.specs.Causes.{IsFirstCall, IsSecretCall, IsStatusCall, IsNextCall}
-use Rattle.cmc_rules.specs.Sighting.{ForNone, OnSeen}
+use Rattle.cmc_rules.specs.SeenObjects.{ForNone, OnSeen}
 use Rattle.cmc_rules.specs.Sound.{IsOrdinary, IsWriteAfterValue, IsIssuance, IsTemporaryPlan, IsFollowed, IsWithin}
 
 -- ---- the call by the act

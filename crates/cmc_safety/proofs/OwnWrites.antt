@@ -15,7 +15,7 @@ use Rattle.cmc_model.specs.Replies.{is_accepted, key_of_call}
 use Rattle.cmc_model.specs.Histories.{Setting, accepted, role_eq}
 use Rattle.cmc_rules.specs.declared.progress.Past.{Past}
 use Rattle.cmc_rules.specs.Positions.{position_of}
-use Rattle.cmc_rules.specs.Viewing.{views}
+use Rattle.cmc_rules.specs.Views.{views}
 use Rattle.cmc_rules.specs.Passes.{open_pass, is_pass_of}
 use Rattle.cmc_rules.specs.Memory.{past, with_own, with_begin, with_ending, ending_of, no_past}
 use Rattle.cmc_rules.specs.Sameness.{if_above, own_above}

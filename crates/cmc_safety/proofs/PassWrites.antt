@@ -26,9 +26,9 @@ use Rattle.cmc_rules.specs.Passes.{open_pass}
 use Rattle.cmc_rules.specs.Dates.{StaysDated}
 use Rattle.cmc_rules.specs.Legality.{IsLegal}
 use Rattle.cmc_rules.specs.Causes.{IsCaused}
-use Rattle.cmc_rules.specs.Raising.{KeepsRevision, RaisesRevision}
+use Rattle.cmc_rules.specs.Revisions.{KeepsRevision, RaisesRevision}
 use Rattle.cmc_rules.specs.Rights.{MayChange}
-use Rattle.cmc_rules.specs.Sighting.{OnSeen}
+use Rattle.cmc_rules.specs.SeenObjects.{OnSeen}
 use Rattle.cmc_rules.specs.Sound.{IsOrdinary, IsWriteAfterValue, WritesTarget, IsSigned, IsMarked, IsRaiseOf, WhereMade, IsOfCertificate}
 use Rattle.cmc_rules.proofs.Sighted.{AreKnown, as_seen}
 use Rattle.cmc_safety.specs.Formed.{IsFormed}

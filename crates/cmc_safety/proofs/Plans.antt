@@ -19,12 +19,12 @@ use Rattle.cmc_pass.specs.declared.pass.Desk.{Desk}
 use Rattle.cmc_pass.specs.declared.pass.Act.{Act}
 use Rattle.cmc_pass.specs.declared.pass.Act.TheVariants.{Nothing, Issue, Temporary}
 use Rattle.cmc_rules.specs.Acts.{act}
-use Rattle.cmc_rules.specs.Triggering.{is_issuing}
+use Rattle.cmc_rules.specs.Trigger.{is_issuing}
 use Rattle.cmc_rules.specs.NextKeys.{named_key}
 use Rattle.cmc_rules.specs.NextRequests.{is_wanted, is_refused}
-use Rattle.cmc_rules.specs.Issuing.{failure, secret_call, issue_plan, temporary_plan, is_granted, fails_now, refusal, is_certified, is_kept_for_keys, lacks_certificate, temporary_with, while_waiting, with_granted, with_wanted, with_request, with_file, with_key_of, issuing_of, issuing}
+use Rattle.cmc_rules.specs.Issuance.{failure, secret_call, issue_plan, temporary_plan, is_granted, fails_now, refusal, is_certified, is_kept_for_keys, lacks_certificate, temporary_with, while_waiting, with_granted, with_wanted, with_request, with_file, with_key_of, issuing_of, issuing}
 use Rattle.cmc_rules.proofs.Lines.{by_test}
-use Rattle.cmc_safety.specs.Completing.{IsPlan}
+use Rattle.cmc_safety.specs.Completion.{IsPlan}
 
 -- the Secret under the name that the Certificate gives: a new one, or the one that is seen at its version
 pub record IsForTarget (stand_in : Bool) (c : Certificate) (target : Option SecretObject) (call : Call) : Type 0 where

@@ -21,14 +21,14 @@ use Rattle.cmc_model.specs.Replies.{IsReply}
 use Rattle.cmc_model.specs.Histories.{Setting, state, objects}
 use Rattle.cmc_rules.specs.Acts.{call_after}
 use Rattle.cmc_rules.specs.Desks.{desk}
-use Rattle.cmc_rules.specs.Issuing.{issuing}
-use Rattle.cmc_rules.specs.Viewing.{views}
+use Rattle.cmc_rules.specs.Issuance.{issuing}
+use Rattle.cmc_rules.specs.Views.{views}
 use Rattle.cmc_rules.specs.Legality.{IsLegal}
 use Rattle.cmc_rules.specs.Causes.{IsCaused}
 use Rattle.cmc_rules.specs.Safety.{HasEntry, IsServedReply}
 use Rattle.cmc_rules.specs.Sound.{WritesTarget, IsSigned, IsMarked, IsWithin}
 use Rattle.cmc_rules.proofs.WellSeen.{views_well}
-use Rattle.cmc_safety.specs.Completing.{IsPlan, IsServedCall}
+use Rattle.cmc_safety.specs.Completion.{IsPlan, IsServedCall}
 use Rattle.cmc_safety.specs.Courses.{is_entry_of, Placed, course_of, IsEnding, lets_on, AreCalls, IsCourseBy, IsCourse, IsStopped, DoesOrTells, PlansAreDone}
 use Rattle.cmc_safety.proofs.Plans.{act_of_issuing}
 use Rattle.cmc_safety.proofs.NextCalls.{ReadsObject, found_is_read, no_read}

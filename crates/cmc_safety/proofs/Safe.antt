@@ -28,7 +28,7 @@ use Rattle.cmc_pass.specs.declared.value.Value.TheVariants as values
 use Rattle.cmc_model.specs.declared.write.Write.{Write}
 use Rattle.cmc_model.specs.Objects.{object_at}
 use Rattle.cmc_model.specs.Replies.{IsReply, is_accepted, key_of_call, settled, stored}
-use Rattle.cmc_model.specs.Accepting.{IsFounded}
+use Rattle.cmc_model.specs.Acceptance.{IsFounded}
 use Rattle.cmc_model.specs.Histories.{Setting, moment, state, objects, accepted}
 use Rattle.cmc_model.specs.Verdicts.{AreFinal}
 use Rattle.cmc_model.specs.Versions.{HasVersion, IsVersion}
@@ -40,10 +40,10 @@ use Rattle.cmc_rules.specs.declared.progress.Stage.TheVariants.{Fresh, Asked, Gi
 use Rattle.cmc_rules.specs.Passes.{open_pass}
 use Rattle.cmc_rules.specs.Legality.{IsLegal}
 use Rattle.cmc_rules.specs.Causes.{IsCaused, MayAsk}
-use Rattle.cmc_rules.specs.Following.{Follows}
-use Rattle.cmc_rules.specs.Raising.{stated_revision, revision, revision_of_uid, KeepsRevision, RaisesRevision}
+use Rattle.cmc_rules.specs.UserSteps.{Follows}
+use Rattle.cmc_rules.specs.Revisions.{stated_revision, revision, revision_of_uid, KeepsRevision, RaisesRevision}
 use Rattle.cmc_rules.specs.Rights.{MayChange, IsRightful}
-use Rattle.cmc_rules.specs.Sighting.{IsAmong, IsWellSeen, OnSeen}
+use Rattle.cmc_rules.specs.SeenObjects.{IsAmong, IsWellSeen, OnSeen}
 use Rattle.cmc_rules.specs.Sound.{IsOrdinary, IsWriteAfterValue, IsReadyToIssue, IsTarget, WritesTarget, IsSigned, IsMarked, IsRaiseOf, IsQuestion}
 use Rattle.cmc_rules.specs.Safety.{HasEntry, LastAsks, AsksToApprove, IsNeverDenied, IsLiveRead, IsIssued, IsOfIssuer, IsTemporaryCertificate, IsGoodIssue, IsSecretSaved, IsStatusUpdate, RaisesWell, IsJudgedYes, AsksWell, IsGoodWrite, IsSafeWrite, AreSafe, IsSafe}
 use Rattle.cmc_rules.proofs.Answered.{verdicts_stay_in}

@@ -10,11 +10,11 @@ use Rattle.cmc_rules.specs.declared.progress.Stage.{Stage}
 use Rattle.cmc_rules.specs.declared.progress.Stage.TheVariants.{Read, Saved}
 use Rattle.cmc_rules.specs.Legality.{IsLegal}
 use Rattle.cmc_rules.specs.Causes.{IsCaused}
-use Rattle.cmc_rules.specs.Following.{Follows}
+use Rattle.cmc_rules.specs.UserSteps.{Follows}
 use Rattle.cmc_rules.specs.Passes.{open_pass}
-use Rattle.cmc_rules.specs.Raising.{revision, revision_of_uid, stated_revision}
+use Rattle.cmc_rules.specs.Revisions.{revision, revision_of_uid, stated_revision}
 use Rattle.cmc_safety.specs.Formed.{IsFormed}
-use Rattle.cmc_safety.specs.Standing.{IsWriting, KeepsInvariants}
+use Rattle.cmc_safety.specs.Invariants.{IsWriting, KeepsInvariants}
 use Rattle.cmc_safety.proofs.Course.{AreSound, of_open}
 use Rattle.cmc_safety.proofs.InProgress.{HoldsWhileIssuing, IsInProgress, IsUnmoved, IsPlayed, in_progress}
 use Rattle.cmc_safety.proofs.Creations.{made_versions}

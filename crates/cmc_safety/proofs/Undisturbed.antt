@@ -33,13 +33,13 @@ use Rattle.cmc_rules.specs.declared.progress.OpenPass.{OpenPass}
 use Rattle.cmc_rules.specs.declared.progress.Stage.{Stage}
 use Rattle.cmc_rules.specs.declared.progress.Stage.TheVariants.{Fresh, Asked, Given, Read, Saved, Wrote, Refused, Barred}
 use Rattle.cmc_rules.specs.Acts.{call_after}
-use Rattle.cmc_rules.specs.Issuing.{secret_call, new_target, old_target, issuing}
+use Rattle.cmc_rules.specs.Issuance.{secret_call, new_target, old_target, issuing}
 use Rattle.cmc_rules.specs.Legality.{IsLegal}
 use Rattle.cmc_rules.specs.Safety.{HasEntry, IsServedReply}
-use Rattle.cmc_rules.specs.Sighting.{OnSeen}
+use Rattle.cmc_rules.specs.SeenObjects.{OnSeen}
 use Rattle.cmc_rules.specs.Sound.{IsWithin}
 use Rattle.cmc_rules.proofs.Sighted.{AreKnown, stands_as_seen}
-use Rattle.cmc_safety.specs.Completing.{IsServedCall, IsCarriedOut, IsPlan}
+use Rattle.cmc_safety.specs.Completion.{IsServedCall, IsCarriedOut, IsPlan}
 use Rattle.cmc_safety.proofs.Plans.{IsForTarget, PlansFor}
 
 -- ---- keys of calls

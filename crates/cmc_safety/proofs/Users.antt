@@ -23,17 +23,17 @@ use Rattle.cmc_objects.specs.Objects.{key_of, meta_of, version_of, numbered}
 use Rattle.cmc_model.specs.Objects.{Objects, object_at}
 use Rattle.cmc_model.specs.Stored.{created, updated, with_status, generation_after}
 use Rattle.cmc_model.specs.Replies.{IsReply, is_accepted, settled}
-use Rattle.cmc_model.specs.Accepting.{IsFounded}
+use Rattle.cmc_model.specs.Acceptance.{IsFounded}
 use Rattle.cmc_model.specs.Histories.{Setting, moment, state, objects, accepted}
 use Rattle.cmc_model.proofs.Accepting.{accepted_found}
 use Rattle.cmc_model.proofs.Writing.{IsCallOf}
 use Rattle.cmc_rules.specs.declared.effect.Effect.{Effect}
 use Rattle.cmc_rules.specs.declared.effect.Effect.TheVariants as effects
 use Rattle.cmc_rules.specs.Legality.{IsLegal}
-use Rattle.cmc_rules.specs.Raising.{stated_revision, KeepsRevision}
-use Rattle.cmc_rules.specs.Scripting.{step_at}
+use Rattle.cmc_rules.specs.Revisions.{stated_revision, KeepsRevision}
+use Rattle.cmc_rules.specs.Scripts.{step_at}
 use Rattle.cmc_rules.specs.UserWrites.{as_request, is_object_for, request_for, verdict, judge_call, answer_call, manual_condition, renew_call, renewal_of}
-use Rattle.cmc_rules.specs.Following.{apply_call, call_of, call_or, effect_of, owed}
+use Rattle.cmc_rules.specs.UserSteps.{apply_call, call_of, call_or, effect_of, owed}
 use Rattle.cmc_rules.proofs.Sights.{found_among}
 use Rattle.cmc_rules.proofs.Sighted.{stands_among}
 use Rattle.cmc_rules.proofs.Versions.{stands_is_version, version_keyed}

@@ -18,7 +18,7 @@ use Rattle.cmc_model.specs.Replies.{is_accepted, key_of_call}
 use Rattle.cmc_model.specs.Histories.{Setting, accepted, role_eq}
 use Rattle.cmc_model.specs.Writes.{writes, last_under}
 use Rattle.cmc_rules.specs.Positions.{position_of}
-use Rattle.cmc_rules.specs.Viewing.{views}
+use Rattle.cmc_rules.specs.Views.{views}
 use Rattle.cmc_rules.specs.Passes.{open_pass, is_pass_of}
 use Rattle.cmc_rules.specs.Memory.{past}
 use Rattle.cmc_rules.specs.Sameness.{IsDue}

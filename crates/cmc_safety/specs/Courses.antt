@@ -22,13 +22,13 @@ use Rattle.cmc_pass.specs.declared.pass.Views.{Views}
 use Rattle.cmc_pass.specs.declared.pass.Act.{Act}
 use Rattle.cmc_pass.specs.declared.pass.Act.TheVariants.{Nothing, Call as Calls, Ask as Asks, Issue, Temporary}
 use Rattle.cmc_model.specs.Histories.{Setting}
-use Rattle.cmc_rules.specs.Viewing.{views}
+use Rattle.cmc_rules.specs.Views.{views}
 use Rattle.cmc_rules.specs.Passes.{is_as_seen}
 use Rattle.cmc_rules.specs.Desks.{desk}
 use Rattle.cmc_rules.specs.Acts.{act, call_after}
-use Rattle.cmc_rules.specs.Issuing.{issuing}
+use Rattle.cmc_rules.specs.Issuance.{issuing}
 use Rattle.cmc_rules.specs.Safety.{HasEntry}
-use Rattle.cmc_safety.specs.Completing.{is_call_of, IsPlan, IsServedCall}
+use Rattle.cmc_safety.specs.Completion.{is_call_of, IsPlan, IsServedCall}
 
 -- ---- the entries of a pass
 

@@ -1,6 +1,6 @@
 pub mod Formed
-pub mod Acting
-pub mod Completing
-pub mod Standing
+pub mod MayAct
+pub mod Completion
+pub mod Invariants
 pub mod Courses
 pub mod Begins

@@ -6,13 +6,13 @@ ghost use Rattle.cmc_objects.specs.declared.role.Role.{Role};
 ghost use Rattle.cmc_model.specs.Histories.{Setting};
 ghost use Rattle.cmc_rules.specs.Legality.{IsLegal};
 ghost use Rattle.cmc_rules.specs.Causes.{IsCaused};
-ghost use Rattle.cmc_rules.specs.Following.{Follows};
+ghost use Rattle.cmc_rules.specs.UserSteps.{Follows};
 ghost use Rattle.cmc_rules.specs.Safety.{IsSafe};
 ghost use Rattle.cmc_rules.specs.Sound.{IsSound};
-ghost use Rattle.cmc_safety.specs.Acting.{IsNeverInvalid};
-ghost use Rattle.cmc_safety.specs.Completing.{CompletesIssuing};
+ghost use Rattle.cmc_safety.specs.MayAct.{IsNeverInvalid};
+ghost use Rattle.cmc_safety.specs.Completion.{CompletesIssuing};
 ghost use Rattle.cmc_safety.specs.Formed.{IsFormed};
-ghost use Rattle.cmc_safety.specs.Standing.{KeepsInvariants};
+ghost use Rattle.cmc_safety.specs.Invariants.{KeepsInvariants};
 
 /// A law: where the table of each role is sound and the setting is one of a scenario, every history that is legal, caused and follows
 /// its script is safe. (Of the setting it needs that all moments lie in the years whose times a certificate can say and read again.)

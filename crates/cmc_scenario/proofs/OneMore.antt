@@ -6,7 +6,7 @@ use Rattle.serde_json.specs.declared.value.Value.{Value}
 use Rattle.cmc_objects.specs.declared.entry.Step.{Step}
 use Rattle.cmc_setup.specs.Stages.{Stage, IsStage, stage_after_step}
 use Rattle.cmc_setup.specs.declared.stage.Stage.{Stage as Code}
-use Rattle.cmc_cursor.specs.Reading.{Read, ◌>>=◌}
+use Rattle.cmc_cursor.specs.Members.{Read, ◌>>=◌}
 use Rattle.cmc_cursor.specs.Readers.{with_front}
 use Rattle.cmc_scenario.specs.Scripts.{numbered_step_at, steps_from}
 

@@ -10,7 +10,7 @@ use Rattle.std.proofs.lemmas.Bool.{and_from}
 use Rattle.serde_json.specs.Data.{Data, null, boolean, number, string, array, object, Items, no_items, item}
 use Rattle.cmc_meta.specs.Wordings.{is_clean, is_printable_name}
 use Rattle.cmc_time.specs.Durations.{longest, IsDuration}
-use Rattle.cmc_time.specs.DurationReading.{duration_seconds}
+use Rattle.cmc_time.specs.DurationTexts.{duration_seconds}
 use Rattle.cmc_time.proofs.DurationLaws.{duration_found}
 use Rattle.cmc_objects.specs.declared.certificate.CertSpec.{CertSpec}
 use Rattle.cmc_objects.specs.declared.issuer.IssuerRef.{IssuerRef}
@@ -19,7 +19,7 @@ use Rattle.cmc_objects.specs.declared.key_spec.Encoding.TheVariants.{Pkcs1, Pkcs
 use Rattle.cmc_objects.specs.declared.request.RequestSpec.{RequestSpec}
 use Rattle.cmc_objects.specs.Requests.{is_short_text, is_short_option, is_issuer_form, is_duration_form}
 use Rattle.cmc_setup.specs.ObjectForms.{is_address_text, are_subject_names, are_certificate_terms, is_object_form}
-use Rattle.cmc_cursor.specs.Reading.{Read, ◌>>=◌, under, Field, fields_at, optional_at, required_at, at_end}
+use Rattle.cmc_cursor.specs.Members.{Read, ◌>>=◌, under, Field, fields_at, optional_at, required_at, at_end}
 use Rattle.cmc_cursor.specs.Readers.{found, text_at, word_at, name_at, flag_at, bytes_at, small_count_at, parts_at, passes, text_member, short_text_at}
 use Rattle.cmc_codec.specs.Given.{worded_at, list_from, text_list_at, clean_text_at, duration_at, choice_at, given_at, member_at, next_member_or, needed_at}
 use Rattle.cmc_codec.specs.MetadataForm.{head_at}

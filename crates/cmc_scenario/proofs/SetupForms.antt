@@ -5,7 +5,7 @@ use Rattle.std.specs.List.{list_all, insert}
 use Rattle.std.proofs.lemmas.Int.{ints}
 use Rattle.std.proofs.lemmas.Bool.Decides.{nat_tests}
 use Rattle.std.proofs.lemmas.Bool.{and_from}
-use Rattle.cmc_time.specs.Reading.{rfc3339_seconds}
+use Rattle.cmc_time.specs.TimeTexts.{rfc3339_seconds}
 use Rattle.serde_json.specs.Data.{Data, null, boolean, number, string, array, object, Items, no_items, item}
 use Rattle.cmc_objects.specs.declared.role.Role.{Role}
 use Rattle.cmc_objects.specs.declared.entry.Step.{Step}
@@ -14,7 +14,7 @@ use Rattle.cmc_setup.specs.Setups.{IsSetup, IsTickForm, RiseFrom, AreInOrder, fi
 use Rattle.cmc_setup.specs.Stages.{Stage, AreInTurn, first_stage, is_in_turn, stage_after_step}
 use Rattle.cmc_setup.proofs.Turns.{orderly, held, ends}
 use Rattle.cmc_setup.proofs.Orders.{in_order_put}
-use Rattle.cmc_cursor.specs.Reading.{◌>>=◌, under, Field, optional_at}
+use Rattle.cmc_cursor.specs.Members.{◌>>=◌, under, Field, optional_at}
 use Rattle.cmc_cursor.specs.Readers.{found, text_at, count_at}
 use Rattle.cmc_material.specs.Approvers.{approver_at, default_approver}
 use Rattle.cmc_material.specs.Lists.{member_or}

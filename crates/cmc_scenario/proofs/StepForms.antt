@@ -11,7 +11,7 @@ use Rattle.cmc_objects.specs.declared.entry.Step.TheVariants.{Tick}
 use Rattle.cmc_objects.specs.Requests.{is_row_form}
 use Rattle.cmc_setup.specs.Forms.{is_certificate, is_said, is_step_form}
 use Rattle.cmc_setup.specs.Setups.{IsTickForm, is_tick, step_seconds}
-use Rattle.cmc_cursor.specs.Reading.{under, Field, fields_at, optional_at, required_at, at_end}
+use Rattle.cmc_cursor.specs.Members.{under, Field, fields_at, optional_at, required_at, at_end}
 use Rattle.cmc_cursor.specs.Readers.{count_at, passes, text_member}
 use Rattle.cmc_codec.specs.ObjectForm.{applied_at as object_form_at}
 use Rattle.cmc_scenario.specs.Applied.{apply_step_at}

@@ -7,7 +7,7 @@ use Rattle.cmc_meta.specs.declared.key.Kind.{Kind}
 use Rattle.cmc_objects.specs.declared.role.Role.{Role}
 use Rattle.cmc_objects.specs.declared.role.Role.TheVariants.{Trigger, KeyManager, RequestManager, Approver, Issuer, Issuing, Readiness, Revision}
 use Rattle.cmc_print.specs.Words.{role_name}
-use Rattle.cmc_cursor.specs.Reading.{Read, ◌>>=◌, under}
+use Rattle.cmc_cursor.specs.Members.{Read, ◌>>=◌, under}
 use Rattle.cmc_cursor.specs.Readers.{text_at}
 use Rattle.cmc_setup.specs.Setups.{with_role}
 use Rattle.cmc_material.specs.Keys.{kind_in}

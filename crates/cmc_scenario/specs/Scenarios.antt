@@ -2,9 +2,9 @@
 use Rattle.std.specs.Prelude.{◌≡◌, ℕ, ℤ, pos, List, [], ◌∷◌, ◌+◌, ◌&&◌, int_le, nat_lt, decimal, codes, if◌then◌else◌, Ok, Err}
 use Rattle.std.specs.declared.result.Result.{Result}
 use Rattle.serde_json.specs.Data.{Data, null, boolean, number, string, array, object, Items, no_items, item}
-use Rattle.cmc_time.specs.Reading.{rfc3339_seconds}
+use Rattle.cmc_time.specs.TimeTexts.{rfc3339_seconds}
 use Rattle.cmc_objects.specs.declared.entry.Step.{Step}
-use Rattle.cmc_cursor.specs.Reading.{Path, Read, text_of, in_words, ◌>>=◌, under, Field, fields_at, optional_at, at_end}
+use Rattle.cmc_cursor.specs.Members.{Path, Read, text_of, in_words, ◌>>=◌, under, Field, fields_at, optional_at, at_end}
 use Rattle.cmc_cursor.specs.Readers.{found, text_at, count_at, floats_at}
 use Rattle.cmc_setup.specs.Setups.{Setup, first_moment, last_moment}
 use Rattle.cmc_setup.specs.Stages.{first_stage}

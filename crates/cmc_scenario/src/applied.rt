@@ -1,7 +1,7 @@
 // The step that applies an object.
 ghost use Rattle.std.specs.Prelude.{◌≡◌};
 ghost use Rattle.serde_json.specs.View.{view};
-ghost use Rattle.cmc_cursor.specs.Reading.{Gives};
+ghost use Rattle.cmc_cursor.specs.Members.{Gives};
 ghost use Rattle.cmc_scenario.specs.Applied.{apply_step_at};
 
 use cmc_codec::{Applied, applied_of};

@@ -1,7 +1,7 @@
 // Steps on the requests of a Certificate, and on its issuance.
 ghost use Rattle.std.specs.Prelude.{map};
 ghost use Rattle.serde_json.specs.View.{view};
-ghost use Rattle.cmc_cursor.specs.Reading.{Gives};
+ghost use Rattle.cmc_cursor.specs.Members.{Gives};
 ghost use Rattle.cmc_cursor.specs.Seen.{shown};
 ghost use Rattle.cmc_scenario.specs.Scripts.{answer_in, approve_in, certificate_member_in, deny_in, renew_in, revision_in};
 

@@ -1,8 +1,8 @@
 // The members of a scenario but the script.
 ghost use Rattle.std.specs.Prelude.{◌≡◌, [], codes, decimal, map};
 ghost use Rattle.serde_json.specs.View.{view, items_view};
-ghost use Rattle.cmc_time.specs.Reading.{rfc3339_seconds};
-ghost use Rattle.cmc_cursor.specs.Reading.{Gives, under};
+ghost use Rattle.cmc_time.specs.TimeTexts.{rfc3339_seconds};
+ghost use Rattle.cmc_cursor.specs.Members.{Gives, under};
 ghost use Rattle.cmc_cursor.specs.Readers.{found};
 ghost use Rattle.cmc_cursor.specs.Seen.{shown, shown_option};
 ghost use Rattle.cmc_material.specs.Lists.{member_or};

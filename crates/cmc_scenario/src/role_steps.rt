@@ -1,7 +1,7 @@
 // Steps on the time, on roles and on informers, and those that wait.
 ghost use Rattle.std.specs.Prelude.{map};
 ghost use Rattle.serde_json.specs.View.{view};
-ghost use Rattle.cmc_cursor.specs.Reading.{Gives};
+ghost use Rattle.cmc_cursor.specs.Members.{Gives};
 ghost use Rattle.cmc_cursor.specs.Seen.{shown};
 ghost use Rattle.cmc_scenario.specs.Scripts.{hold_in, informer_in, release_in, settle_in, start_in, stop_in, tick_in, until_in};
 

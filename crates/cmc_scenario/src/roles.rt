@@ -1,7 +1,7 @@
 // Roles and kinds by their names.
 ghost use Rattle.std.specs.Prelude.{◌≡◌, [], decimal, IfOk};
 ghost use Rattle.serde_json.specs.View.{view, items_view};
-ghost use Rattle.cmc_cursor.specs.Reading.{Gives, under};
+ghost use Rattle.cmc_cursor.specs.Members.{Gives, under};
 ghost use Rattle.cmc_cursor.specs.Seen.{shown_option};
 ghost use Rattle.cmc_scenario_print.specs.Defaults.{all_roles};
 ghost use Rattle.cmc_scenario.specs.Roles.{kind_at, named_roles_at, role_at, role_in, roles_at, roles_with};

@@ -13,7 +13,7 @@ use Rattle.cmc_objects.specs.declared.certificate.CertSpec.{CertSpec}
 use Rattle.cmc_objects.specs.declared.request.RequestSpec.{RequestSpec}
 use Rattle.cmc_objects.specs.declared.object.Object.{Object}
 use Rattle.cmc_objects.specs.declared.object.Object.TheVariants.{Cert, Request, Secret}
-use Rattle.cmc_cursor.specs.Reading.{Read, under, Field, fields_at, fields_of, optional_at, required_at, at_end}
+use Rattle.cmc_cursor.specs.Members.{Read, under, Field, fields_at, fields_of, optional_at, required_at, at_end}
 use Rattle.cmc_cursor.specs.Readers.{found, text_at, word_at, name_at, decimal_in, decimal_at, pairs_at, parts_at, passes, text_member, sought_at}
 use Rattle.cmc_cursor.proofs.Always.{Always, so, failed, next, after, below, either, with_both}
 use Rattle.cmc_print.specs.Puts.{base64_text, map_tree}

@@ -5,7 +5,7 @@ use Rattle.serde_json.specs.Data.{Data, string, object, Members, no_members, mem
 use Rattle.serde_json.specs.View.{items_of}
 use Rattle.cmc_policy_rules.specs.declared.policy.Policy.{Policy}
 use Rattle.cmc_objects.specs.declared.orders.Rules.{Rules}
-use Rattle.cmc_cursor.specs.Reading.{fields_at, optional_at, at_end}
+use Rattle.cmc_cursor.specs.Members.{fields_at, optional_at, at_end}
 use Rattle.cmc_cursor.specs.Readers.{texts_from, texts_at}
 use Rattle.cmc_cursor.proofs.Always.{Always, so, next, after, below, further}
 use Rattle.cmc_print.specs.Puts.{strings}

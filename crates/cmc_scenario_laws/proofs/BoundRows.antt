@@ -20,7 +20,7 @@ use Rattle.cmc_objects.specs.Requests.{is_row_form}
 use Rattle.cmc_setup.specs.Forms.{is_certificate, is_said, is_step_form, is_bound_key, is_bound_entry, is_bound_step}
 use Rattle.cmc_setup.specs.Setups.{Setup, LeavesNothingFree}
 use Rattle.cmc_setup.specs.Stages.{first_stage}
-use Rattle.cmc_cursor.specs.Reading.{Read, in_words, under, Field, fields_at, optional_at, at_end}
+use Rattle.cmc_cursor.specs.Members.{Read, in_words, under, Field, fields_at, optional_at, at_end}
 use Rattle.cmc_cursor.specs.Readers.{count_at, bytes_at}
 use Rattle.cmc_cursor.specs.Readers.{floats_at}
 use Rattle.cmc_cursor.proofs.Always.{Always, so, failed, next, after, below, further}

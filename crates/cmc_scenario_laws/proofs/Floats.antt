@@ -6,7 +6,7 @@ use Rattle.std.specs.Ordering.{nat_cmp, match_ordering}
 use Rattle.std.specs.Cmp.Lexicographic.{slice_cmp}
 use Rattle.serde_json.specs.Data.{Data, boolean, string, array, object, Members, no_members, member, put}
 use Rattle.serde_json.specs.View.{items_of}
-use Rattle.cmc_cursor.specs.Reading.{Check, ◌>>=◌, under}
+use Rattle.cmc_cursor.specs.Members.{Check, ◌>>=◌, under}
 use Rattle.cmc_cursor.specs.Readers.{floats_at, floats_from, floats_in}
 use Rattle.cmc_print.specs.Trees.{natural}
 use Rattle.cmc_print.specs.Puts.{put_option, put_list, put_true, put_object, put_all, map_tree}

@@ -12,7 +12,7 @@ use Rattle.cmc_meta.specs.Names.{is_subdomain}
 use Rattle.cmc_meta.specs.declared.key.Key.{Key}
 use Rattle.cmc_meta.specs.declared.key.Kind.{Kind}
 use Rattle.cmc_meta.specs.declared.key.Kind.TheVariants.{Certificate, CertificateRequest, Secret}
-use Rattle.cmc_cursor.specs.Reading.{Read}
+use Rattle.cmc_cursor.specs.Members.{Read}
 use Rattle.cmc_cursor.specs.Readers.{text_at, name_in}
 use Rattle.cmc_cursor.proofs.Always.{Always, so, failed, next, after, with_both, further}
 use Rattle.cmc_print.specs.Words.{kind_name, name_text, key_text}

@@ -14,7 +14,7 @@ use Rattle.cmc_meta.specs.Keys.{key_cmp}
 use Rattle.cmc_meta.specs.declared.key.Key.{Key}
 use Rattle.cmc_objects.specs.Materials.{with_rows_of}
 use Rattle.cmc_objects.specs.declared.rows.Rows.{Rows}
-use Rattle.cmc_cursor.specs.Reading.{Read, ◌>>=◌, under}
+use Rattle.cmc_cursor.specs.Members.{Read, ◌>>=◌, under}
 use Rattle.cmc_cursor.proofs.Always.{Always, so, failed, after, below, further}
 use Rattle.cmc_print.specs.Words.{name_text}
 use Rattle.cmc_material.specs.Keys.{key_of_kind}

@@ -5,7 +5,7 @@ use Rattle.std.specs.List.{AllByRecursion}
 use Rattle.std.proofs.lemmas.Bool.{eqb-true}
 use Rattle.serde_json.specs.Data.{Data, null, boolean, number, string, array, object, Items, no_items, item, Members}
 use Rattle.serde_json.specs.View.{items_of}
-use Rattle.cmc_cursor.specs.Reading.{Read, ◌>>=◌, under}
+use Rattle.cmc_cursor.specs.Members.{Read, ◌>>=◌, under}
 use Rattle.cmc_cursor.specs.Readers.{count_at, flag_at}
 use Rattle.cmc_cursor.proofs.Always.{Always, so, failed, next, after, below, where_true, further}
 use Rattle.cmc_print.specs.Trees.{natural}

@@ -8,7 +8,7 @@ use Rattle.base64.specs.GeneralPurpose.{IsBytes}
 use Rattle.serde_json.specs.Data.{Data, object}
 use Rattle.cmc_policy_rules.specs.declared.policy.Policy.{Policy}
 use Rattle.cmc_setup.specs.Forms.{is_pattern_form}
-use Rattle.cmc_cursor.specs.Reading.{Read, ◌>>=◌, under, Field, fields_of, fields_at, optional_at, required_at, at_end}
+use Rattle.cmc_cursor.specs.Members.{Read, ◌>>=◌, under, Field, fields_of, fields_at, optional_at, required_at, at_end}
 use Rattle.cmc_cursor.specs.Readers.{text_at, flag_at, small_count_at}
 use Rattle.cmc_cursor.proofs.Always.{Always, so, next, after, below, further, where_true}
 use Rattle.cmc_print.specs.Trees.{natural}

@@ -10,7 +10,7 @@ use Rattle.cmc_objects.specs.declared.role.Role.TheVariants.{Trigger, KeyManager
 use Rattle.cmc_objects.specs.Roles.{role_rank}
 use Rattle.cmc_objects.proofs.Ranks.{role_of_rank}
 use Rattle.cmc_setup.specs.Setups.{AreInOrderFrom, AreInOrder, is_among, place_among, with_role}
-use Rattle.cmc_cursor.specs.Reading.{Read}
+use Rattle.cmc_cursor.specs.Members.{Read}
 use Rattle.cmc_scenario.specs.Roles.{roles_with, named_roles_at, roles_at}
 use Rattle.cmc_scenario_print.specs.Defaults as defaults
 use Rattle.cmc_scenario_print.specs.Defaults.{is_every_role}

@@ -11,7 +11,7 @@ use Rattle.cmc_objects.specs.declared.rows.KeyRow.{KeyRow}
 use Rattle.cmc_objects.specs.declared.rows.KeyRow.TheVariants as key_rows
 use Rattle.cmc_objects.specs.declared.rows.SignRow.{SignRow}
 use Rattle.cmc_objects.specs.declared.rows.SignRow.TheVariants as signs
-use Rattle.cmc_cursor.specs.Reading.{under, Field, fields_of, fields_at, optional_at, required_at, at_end}
+use Rattle.cmc_cursor.specs.Members.{under, Field, fields_of, fields_at, optional_at, required_at, at_end}
 use Rattle.cmc_cursor.specs.Readers.{text_at, count_at, bytes_at, passes, text_member}
 use Rattle.cmc_cursor.proofs.Always.{Always, so, failed, next, after, below, either}
 use Rattle.cmc_print.specs.Trees.{natural}

@@ -3,7 +3,7 @@ use Rattle.std.proofs.Common.{◌≡◌, Ok, Err, refl}
 use Rattle.serde_json.specs.Data.{Data}
 use Rattle.cmc_objects.specs.declared.entry.Step.{Step}
 use Rattle.cmc_setup.specs.Setups.{Setup}
-use Rattle.cmc_cursor.specs.Reading.{Read, in_words}
+use Rattle.cmc_cursor.specs.Members.{Read, in_words}
 use Rattle.cmc_cursor.specs.Readers.{floats_at}
 use Rattle.cmc_cursor.proofs.Always.{Always, so, next, after}
 use Rattle.cmc_scenario.specs.Scenarios.{members_at, scenario_whole_at, scenario_at}

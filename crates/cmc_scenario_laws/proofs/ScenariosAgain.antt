@@ -6,13 +6,13 @@ use Rattle.std.proofs.lemmas.Bool.{eqb-true}
 use Rattle.std.proofs.lemmas.Int.{ints}
 use Rattle.serde_json.specs.Data.{Data, null, boolean, number, string, array, object, Items, no_items, item}
 use Rattle.serde_json.specs.View.{items_of}
-use Rattle.cmc_time.specs.Reading.{rfc3339_seconds}
+use Rattle.cmc_time.specs.TimeTexts.{rfc3339_seconds}
 use Rattle.cmc_time.specs.Rfc3339.{rfc3339, rfc3339_text}
 use Rattle.cmc_time.proofs.Rfc3339Laws.{rfc3339_again, rfc3339_found, rfc3339_is}
 use Rattle.cmc_objects.specs.declared.entry.Step.{Step}
 use Rattle.cmc_setup.specs.Setups.{Setup, first_moment, last_moment}
 use Rattle.cmc_setup.specs.Stages.{first_stage}
-use Rattle.cmc_cursor.specs.Reading.{◌>>=◌, under, Field, fields_of, fields_at, optional_at, at_end}
+use Rattle.cmc_cursor.specs.Members.{◌>>=◌, under, Field, fields_of, fields_at, optional_at, at_end}
 use Rattle.cmc_cursor.specs.Readers.{found, text_at, count_at}
 use Rattle.cmc_cursor.proofs.Always.{Always, so, failed, next, after, below, further, where_true, with_both}
 use Rattle.cmc_print.specs.Trees.{natural}

@@ -5,7 +5,7 @@ use Rattle.serde_json.specs.Data.{Data, null, boolean, number, string, array, ob
 use Rattle.serde_json.specs.View.{items_of}
 use Rattle.cmc_objects.specs.declared.entry.Step.{Step}
 use Rattle.cmc_setup.specs.Stages.{Stage, is_in_turn, stage_after_step}
-use Rattle.cmc_cursor.specs.Reading.{◌>>=◌, under}
+use Rattle.cmc_cursor.specs.Members.{◌>>=◌, under}
 use Rattle.cmc_cursor.proofs.Always.{Always, so, failed, after, below, further, where_true}
 use Rattle.cmc_scenario.specs.Scripts.{in_turn, script_step_at, numbered_step_at, steps_from, steps_at, script_at}
 use Rattle.cmc_scenario_print.specs.StepTrees.{step_tree, script_tree}

@@ -12,7 +12,7 @@ use Rattle.cmc_objects.specs.declared.role.Role.TheVariants.{Trigger, KeyManager
 use Rattle.cmc_objects.specs.declared.rows.SignRow.{SignRow}
 use Rattle.cmc_objects.specs.declared.entry.Step.{Step}
 use Rattle.cmc_objects.specs.declared.entry.Step.TheVariants.{Apply, Delete, Approve, Deny, Answer, Renew, Tick, Stop, Start, Hold, Release, Until, Settle}
-use Rattle.cmc_cursor.specs.Reading.{Read, under, Field, fields_at, optional_at, required_at, at_end}
+use Rattle.cmc_cursor.specs.Members.{Read, under, Field, fields_at, optional_at, required_at, at_end}
 use Rattle.cmc_cursor.specs.Readers.{count_at, passes, text_member}
 use Rattle.cmc_cursor.proofs.Always.{Always, so, failed, next, after, below, either}
 use Rattle.cmc_print.specs.Trees.{natural}

@@ -7,7 +7,7 @@ use Rattle.cmc_setup.specs.declared.holding.Holding.{Holding}
 use Rattle.cmc_setup.specs.Setups.{running_after, switch_of, step_seconds, last_moment}
 use Rattle.cmc_setup.specs.Holds.{grip_of, may_grip, held_after}
 use Rattle.cmc_setup.specs.Flags.{Tells, flag_of}
-use Rattle.cmc_setup.specs.Holding.{held_of}
+use Rattle.cmc_setup.specs.HeldInformers.{held_of}
 use Rattle.cmc_setup.specs.Stages.{Stage, IsStage, is_in_turn, may_switch, moment_after, stage_after_step}
 use Rattle.cmc_setup.proofs.Grips.{AreSame}
 

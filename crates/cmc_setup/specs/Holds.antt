@@ -7,7 +7,7 @@ use Rattle.cmc_objects.specs.declared.role.Role.{Role}
 use Rattle.cmc_objects.specs.declared.entry.Step.{Step}
 use Rattle.cmc_objects.specs.declared.entry.Step.TheVariants.{Hold, Release}
 use Rattle.cmc_objects.specs.Roles.{role_rank}
-use Rattle.cmc_objects.specs.Watching.{has_informer}
+use Rattle.cmc_objects.specs.Informers.{has_informer}
 
 -- which informers are held
 abbrev pub Held : Type 0

@@ -2,6 +2,6 @@ pub mod Forms
 pub mod Holds
 pub mod Setups
 pub mod Flags
-pub mod Holding
+pub mod HeldInformers
 pub mod Stages
 pub mod ObjectForms

@@ -8,7 +8,7 @@ use Rattle.cmc_setup.specs.Setups.{is_among, running_after, switch_of, step_seco
 use Rattle.cmc_setup.specs.Holds.{Held, none_held, grip_of, may_grip, held_after}
 use Rattle.cmc_setup.specs.Flags.{Tells, flag_of}
 use Rattle.cmc_setup.specs.declared.stage.Stage.{Stage as Code}
-use Rattle.cmc_setup.specs.Holding.{held_of}
+use Rattle.cmc_setup.specs.HeldInformers.{held_of}
 
 -- what runs, what is held, and the moment
 pub record Stage : Type 0 where

@@ -2,7 +2,7 @@
 ghost use Rattle.std.specs.Prelude.{◌≡◌, ◌↔◌, IsTrue, MatchOption, Some, true, false, if◌then◌else◌};
 ghost use Rattle.cmc_meta.specs.declared.key.Kind.{Kind as KindValue};
 ghost use Rattle.cmc_objects.specs.declared.role.Role.{Role as RoleValue};
-ghost use Rattle.cmc_setup.specs.Holding.{held_of};
+ghost use Rattle.cmc_setup.specs.HeldInformers.{held_of};
 ghost use Rattle.cmc_setup.specs.Holds.{AreHeldInTurn, Held, is_kind_and_role, grip_of, held_after, may_grip, none_held};
 
 use crate::flags::RoleFlags;

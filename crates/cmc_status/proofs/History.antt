@@ -12,9 +12,9 @@ use Rattle.cmc_pass.specs.declared.pass.Views.{Views}
 use Rattle.cmc_pass.specs.declared.pass.Desk.{Desk}
 use Rattle.cmc_pass.specs.declared.pass.Act.{Act}
 use Rattle.cmc_pass.specs.declared.pass.Act.TheVariants.{Nothing}
-use Rattle.cmc_rules.specs.Revising.{counts, revision, older_of, oldest_from, oldest_of, delete_call, delete_of, by_limit, revise_of, revise}
+use Rattle.cmc_rules.specs.RevisionManager.{counts, revision, older_of, oldest_from, oldest_of, delete_call, delete_of, by_limit, revise_of, revise}
 use Rattle.cmc_rules.specs.Acts.{act, call_after}
-use Rattle.cmc_rules.specs.Sighting.{IsPartOf, OnSeen}
+use Rattle.cmc_rules.specs.SeenObjects.{IsPartOf, OnSeen}
 use Rattle.cmc_rules.specs.Sound.{IsWithin, views_shown, IsSound}
 use Rattle.cmc_rules.proofs.Lines.{by_test}
 

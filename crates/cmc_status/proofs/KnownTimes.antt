@@ -5,7 +5,7 @@ use Rattle.cmc_der.specs.Keys.{CertificateFields}
 use Rattle.cmc_policies.specs.declared.renewal.Renew.{Renew}
 use Rattle.cmc_policies.specs.Renewal.{renewal}
 use Rattle.cmc_objects.specs.KeyPairs.{is_paired, begins, ends}
-use Rattle.cmc_rules.specs.Readying.{begins_at, ends_at, renews_at}
+use Rattle.cmc_rules.specs.Readiness.{begins_at, ends_at, renews_at}
 
 pub begins_known : (pair : Option CertificateFields) (stands : Bool) (first : ℤ) → stands ≡ is_paired pair → first ≡ begins pair → (if stands then Some first else None) ≡ begins_at pair
 begins_known None stands first s f = rw (s) refl

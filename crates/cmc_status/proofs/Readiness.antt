@@ -31,10 +31,10 @@ use Rattle.cmc_model.specs.Stored.{with_status}
 use Rattle.cmc_rules.specs.Rights.{other_conditions}
 use Rattle.cmc_rules.specs.Dates.{IsDatedOption, IsDatedStatus}
 use Rattle.cmc_rules.specs.Chains.{readiness_chain, readiness_reason}
-use Rattle.cmc_rules.specs.Triggering.{frame_of}
-use Rattle.cmc_rules.specs.Readying.{ready_condition, ready_status, begins_at, ends_at, renews_at, is_same_moment, says, is_settled, ready_call, ready_by, ready_of, readiness}
+use Rattle.cmc_rules.specs.Trigger.{frame_of}
+use Rattle.cmc_rules.specs.Readiness.{ready_condition, ready_status, begins_at, ends_at, renews_at, is_same_moment, says, is_settled, ready_call, ready_by, ready_of, readiness}
 use Rattle.cmc_rules.specs.Acts.{act, call_after}
-use Rattle.cmc_rules.specs.Sighting.{OnSeen}
+use Rattle.cmc_rules.specs.SeenObjects.{OnSeen}
 use Rattle.cmc_rules.specs.Sound.{IsWithin, IsExpiry, views_shown, IsSound}
 use Rattle.cmc_rules.proofs.Sights.{seen_certificate}
 use Rattle.cmc_rules.proofs.Conditions.{others-transitioned}

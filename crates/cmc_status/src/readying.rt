@@ -9,7 +9,7 @@ ghost use Rattle.cmc_pass.specs.declared.pass.Act.TheVariants.{Call as Calls};
 ghost use Rattle.cmc_objects.specs.declared.role.Role.TheVariants as roles;
 ghost use Rattle.cmc_policies.specs.Reasons.{reason_name};
 ghost use Rattle.cmc_rules.specs.Acts as acts;
-ghost use Rattle.cmc_rules.specs.Readying as spec;
+ghost use Rattle.cmc_rules.specs.Readiness as spec;
 
 use crate::reasons::{Judged, Times, judge};
 use cmc_meta::{Condition, ConditionKind, Text, Tri};
@@ -26,7 +26,7 @@ fn message(alloc: Global, reason: Reason) -> Result<Text, AllocError>
     Text::from_str(alloc, message.as_str())
 }
 
-#[tactic(auto, unfolding(cmc_rules::specs::Readying::ready_condition))]
+#[tactic(auto, unfolding(cmc_rules::specs::Readiness::ready_condition))]
 fn condition(alloc: Global, moment: i64, reason: Option<Reason>) -> Result<Condition, AllocError>
     ensures { IfOk result (λ c. c ≡ spec.ready_condition moment reason) }
 {
@@ -120,7 +120,7 @@ fn with_status(
     }))
 }
 
-#[tactic(auto, unfolding(cmc_rules::specs::Readying::is_settled, cmc_rules::specs::Readying::ready_call, cmc_rules::specs::Readying::ready_status))]
+#[tactic(auto, unfolding(cmc_rules::specs::Readiness::is_settled, cmc_rules::specs::Readiness::ready_call, cmc_rules::specs::Readiness::ready_status))]
 fn ready_of(
     alloc: Global,
     moment: i64,
@@ -151,7 +151,7 @@ fn ready_of(
 /// the times of the certificate that exists, and when that is renewed, or takes them away where there is no pair
 /// (cert-manager.io/v1 `CertificateStatus`). It does nothing where there is no Certificate, or its status says all
 /// of this already.
-#[tactic(auto, unfolding(cmc_rules::specs::Acts::act, cmc_rules::specs::Readying::readiness))]
+#[tactic(auto, unfolding(cmc_rules::specs::Acts::act, cmc_rules::specs::Readiness::readiness))]
 pub fn act_readiness(alloc: Global, views: &Views, now: i64, desk: &Desk) -> Result<Act, AllocError>
     ensures { IfOk result (λ a. a ≡ acts.act roles.Readiness views.now now desk.now) }
 {

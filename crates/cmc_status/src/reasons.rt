@@ -5,7 +5,7 @@ ghost use Rattle.cmc_match.specs.Facts.{pair_at};
 ghost use Rattle.cmc_policies.specs.Reasons.{first_of, known};
 ghost use Rattle.cmc_policies.specs.Renewal.{renewal};
 ghost use Rattle.cmc_rules.specs.Chains.{readiness_chain, readiness_reason};
-ghost use Rattle.cmc_rules.specs.Readying as spec;
+ghost use Rattle.cmc_rules.specs.Readiness as spec;
 
 use cmc_match::facts_for;
 use cmc_objects::{Certificate, CertificateRequest, Secret, Shared};

@@ -3,7 +3,7 @@ ghost use Rattle.std.specs.Option.{option_copied};
 ghost use Rattle.std.specs.Prelude.{◌≡◌, IfOk, filter, length, nat_lt, if◌then◌else◌};
 ghost use Rattle.cmc_objects.specs.declared.role.Role.TheVariants as roles;
 ghost use Rattle.cmc_rules.specs.Acts as acts;
-ghost use Rattle.cmc_rules.specs.Revising as spec;
+ghost use Rattle.cmc_rules.specs.RevisionManager as spec;
 
 use crate::conditions::{is_issuing, is_ready};
 use cmc_match::revision_of;
@@ -12,7 +12,7 @@ use cmc_objects::{Call, Certificate, CertificateRequest, Shared};
 use cmc_pass::{Act, Desk, Views};
 use std::alloc::{AllocError, Global};
 
-#[tactic(auto, unfolding(cmc_rules::specs::Revising::counts))]
+#[tactic(auto, unfolding(cmc_rules::specs::RevisionManager::counts))]
 fn counts(request: &CertificateRequest) -> bool
     ensures { result ≡ spec.counts request.now }
 {
@@ -68,7 +68,7 @@ fn oldest_with<'a>(
 }
 
 /// The request of least revision of those that count, of several the first; none where none counts.
-#[tactic(auto, unfolding(cmc_rules::specs::Revising::oldest_of))]
+#[tactic(auto, unfolding(cmc_rules::specs::RevisionManager::oldest_of))]
 fn oldest_in(requests: &[Shared<CertificateRequest>]) -> Option<&Shared<CertificateRequest>>
     ensures { option_copied result ≡ spec.oldest_of (filter spec.counts requests.now) }
 {
@@ -79,7 +79,7 @@ fn oldest_in(requests: &[Shared<CertificateRequest>]) -> Option<&Shared<Certific
     oldest
 }
 
-#[tactic(auto, unfolding(cmc_rules::specs::Revising::delete_call))]
+#[tactic(auto, unfolding(cmc_rules::specs::RevisionManager::delete_call))]
 fn delete_of(oldest: Option<&Shared<CertificateRequest>>) -> Result<Act, AllocError>
     ensures { IfOk result (λ a. a ≡ spec.delete_of (option_copied oldest.entry)) }
 {
@@ -123,7 +123,7 @@ fn revise_of(
 /// deletes the one of least revision, of several the first by name, at the version that it sees (cert-manager.io/v1
 /// `CertificateSpec`). It does nothing where there is no Certificate or no limit, and while the Certificate is being
 /// issued. It looks at neither the moment nor the desk.
-#[tactic(auto, unfolding(cmc_rules::specs::Acts::act, cmc_rules::specs::Revising::revise))]
+#[tactic(auto, unfolding(cmc_rules::specs::Acts::act, cmc_rules::specs::RevisionManager::revise))]
 pub fn act_revision(alloc: Global, views: &Views, now: i64, desk: &Desk) -> Result<Act, AllocError>
     ensures { IfOk result (λ a. a ≡ acts.act roles.Revision views.now now desk.now) }
 {

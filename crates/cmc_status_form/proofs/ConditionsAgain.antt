@@ -16,7 +16,7 @@ use Rattle.cmc_meta.specs.declared.conditions.Tri.{Tri}
 use Rattle.cmc_meta.specs.declared.conditions.Tri.TheVariants.{True, False, Unknown}
 use Rattle.cmc_meta.specs.declared.conditions.Condition.{Condition}
 use Rattle.cmc_time.specs.Moment.{IsPrintable}
-use Rattle.cmc_cursor.specs.Reading.{◌>>=◌, under, Field, fields_at, at_end}
+use Rattle.cmc_cursor.specs.Members.{◌>>=◌, under, Field, fields_at, at_end}
 use Rattle.cmc_cursor.specs.Readers.{text_at, floats_at, floats_from}
 use Rattle.cmc_cursor.proofs.Always.{Always, so, failed, next, after, below, where_true}
 use Rattle.cmc_print.specs.Printed.{moment_tree, condition_tree, conditions_tree}

@@ -7,7 +7,7 @@ use Rattle.jiff_core.proofs.SignedLemmas.{signed_arith}
 use Rattle.jiff_core.proofs.CalendarLemmas.{days_from_civil-day_count, day_count-lt_year, day_count-next_year, day_count-last_of_year, day_count_bounds}
 use Rattle.serde_json.specs.Data.{Data}
 use Rattle.cmc_time.specs.Moment.{IsMoment, IsPrintable, seconds_of, moment_of}
-use Rattle.cmc_time.specs.Reading.{rfc3339_seconds}
+use Rattle.cmc_time.specs.TimeTexts.{rfc3339_seconds}
 use Rattle.cmc_time.specs.Rfc3339.{rfc3339, rfc3339_text}
 use Rattle.cmc_time.specs.declared.moment.Moment.{Moment}
 use Rattle.cmc_time.proofs.Exists.{moment_of_is}

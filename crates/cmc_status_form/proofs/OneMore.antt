@@ -9,7 +9,7 @@ use Rattle.serde_json.specs.View.{view, items_view}
 use Rattle.serde_json.specs.declared.value.Value.{Value}
 use Rattle.cmc_meta.specs.ConditionLists.{condition_rank, renewed}
 use Rattle.cmc_meta.specs.declared.conditions.Condition.{Condition}
-use Rattle.cmc_cursor.specs.Reading.{Read, ◌>>=◌, under}
+use Rattle.cmc_cursor.specs.Members.{Read, ◌>>=◌, under}
 use Rattle.cmc_cursor.specs.Readers.{with_front}
 use Rattle.cmc_status_form.specs.ConditionForm.{condition_read_at, from_rank, conditions_from}
 use Rattle.cmc_status_form.proofs.ConditionsAgain.{numbered_so}

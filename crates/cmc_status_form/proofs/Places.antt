@@ -2,7 +2,7 @@
 use Rattle.std.proofs.Common.{◌≡◌, ℕ, List, [], ◌∷◌, Bool, true, false, Option, Some, None, Ok, refl}
 use Rattle.std.specs.Prelude.{if◌then◌else◌}
 use Rattle.serde_json.specs.Data.{Data, no_members}
-use Rattle.cmc_cursor.specs.Reading.{Read, fields_of}
+use Rattle.cmc_cursor.specs.Members.{Read, fields_of}
 use Rattle.cmc_cursor.specs.Readers.{floats_at, floats_in}
 use Rattle.cmc_codec.specs.Given.{next_member_or}
 use Rattle.cmc_codec.proofs.Slots.{slots, below, is_next, member_or_is, some_option, some_list}

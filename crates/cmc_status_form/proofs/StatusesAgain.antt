@@ -10,7 +10,7 @@ use Rattle.cmc_objects.specs.Objects.{no_cert_status, no_request_status}
 use Rattle.cmc_objects.specs.declared.certificate.CertStatus.{CertStatus}
 use Rattle.cmc_objects.specs.declared.request.RequestStatus.{RequestStatus}
 use Rattle.cmc_time.specs.Moment.{IsPrintable}
-use Rattle.cmc_cursor.specs.Reading.{Read, Field, fields_of, at_end}
+use Rattle.cmc_cursor.specs.Members.{Read, Field, fields_of, at_end}
 use Rattle.cmc_cursor.specs.Readers.{text_at, name_in, name_at, count_at, small_count_at, floats_in}
 use Rattle.cmc_cursor.proofs.Always.{Always, so, next, after, where_true}
 use Rattle.cmc_print.specs.Trees.{natural}

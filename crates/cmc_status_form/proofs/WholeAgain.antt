@@ -12,7 +12,7 @@ use Rattle.cmc_objects.specs.declared.request.CertificateRequest.{CertificateReq
 use Rattle.cmc_objects.specs.declared.secret.Secret.{Secret as SecretObject}
 use Rattle.cmc_objects.specs.declared.object.Object.{Object}
 use Rattle.cmc_objects.specs.declared.object.Object.TheVariants.{Cert, Request, Secret}
-use Rattle.cmc_cursor.specs.Reading.{Read, ◌>>=◌, under, Field, fields_of}
+use Rattle.cmc_cursor.specs.Members.{Read, ◌>>=◌, under, Field, fields_of}
 use Rattle.cmc_cursor.specs.Readers.{floats_in}
 use Rattle.cmc_print.specs.Printed.{meta_members, meta_tree, spec_tree, request_tree, status_members, request_status_members, put_body, head_members, object_tree}
 use Rattle.cmc_print.specs.Puts.{put_list, base64_text, map_tree}

@@ -3,14 +3,14 @@ use Rattle.std.specs.Prelude.{ℕ, ℤ, List, [], ◌∷◌, ◌+◌, codes, dec
 use Rattle.std.specs.declared.option.Option.{Option}
 use Rattle.std.specs.Str.{bytes_eq}
 use Rattle.serde_json.specs.Data.{Data, null, boolean, number, string, array, object, Items, no_items, item}
-use Rattle.cmc_time.specs.Reading.{rfc3339_seconds}
+use Rattle.cmc_time.specs.TimeTexts.{rfc3339_seconds}
 use Rattle.cmc_meta.specs.ConditionLists.{condition_rank}
 use Rattle.cmc_meta.specs.declared.conditions.ConditionKind.{ConditionKind}
 use Rattle.cmc_meta.specs.declared.conditions.ConditionKind.TheVariants.{Ready, Issuing, Approved, Denied, InvalidRequest}
 use Rattle.cmc_meta.specs.declared.conditions.Tri.{Tri}
 use Rattle.cmc_meta.specs.declared.conditions.Tri.TheVariants.{True, False, Unknown}
 use Rattle.cmc_meta.specs.declared.conditions.Condition.{Condition}
-use Rattle.cmc_cursor.specs.Reading.{Read, ◌>>=◌, under, Field, fields_at, at_end}
+use Rattle.cmc_cursor.specs.Members.{Read, ◌>>=◌, under, Field, fields_at, at_end}
 use Rattle.cmc_cursor.specs.Readers.{found, text_at}
 use Rattle.cmc_codec.specs.Given.{needed_at}
 

@@ -4,7 +4,7 @@ use Rattle.std.specs.Prelude.{ℕ, List, [], codes, Ok}
 use Rattle.serde_json.specs.Data.{Data}
 use Rattle.cmc_objects.specs.declared.certificate.CertStatus.{CertStatus}
 use Rattle.cmc_objects.specs.declared.request.RequestStatus.{RequestStatus}
-use Rattle.cmc_cursor.specs.Reading.{Read, ◌>>=◌, Field, fields_at, at_end}
+use Rattle.cmc_cursor.specs.Members.{Read, ◌>>=◌, Field, fields_at, at_end}
 use Rattle.cmc_cursor.specs.Readers.{name_at, small_count_at, count_at, bytes_at}
 use Rattle.cmc_codec.specs.Given.{member_at, next_member_or}
 use Rattle.cmc_status_form.specs.ConditionForm.{non_empty_list, moment_at, conditions_at}

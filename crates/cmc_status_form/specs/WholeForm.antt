@@ -9,7 +9,7 @@ use Rattle.cmc_objects.specs.declared.request.CertificateRequest.{CertificateReq
 use Rattle.cmc_objects.specs.declared.secret.Secret.{Secret as SecretObject}
 use Rattle.cmc_objects.specs.declared.object.Object.{Object}
 use Rattle.cmc_objects.specs.declared.object.Object.TheVariants.{Cert, Request, Secret}
-use Rattle.cmc_cursor.specs.Reading.{Read, ◌>>=◌}
+use Rattle.cmc_cursor.specs.Members.{Read, ◌>>=◌}
 use Rattle.cmc_codec.specs.Given.{given_or}
 use Rattle.cmc_codec.specs.ObjectForm.{object_read_at}
 use Rattle.cmc_status_form.specs.StatusForm.{cert_status_at, request_status_at}

@@ -1,7 +1,7 @@
 // The status of a Certificate, read from JSON in parts, as its members come.
 ghost use Rattle.std.specs.Prelude.{◌≡◌, map};
 ghost use Rattle.serde_json.specs.View.{view};
-ghost use Rattle.cmc_cursor.specs.Reading.{Gives};
+ghost use Rattle.cmc_cursor.specs.Members.{Gives};
 ghost use Rattle.cmc_cursor.specs.Seen.{shown};
 ghost use Rattle.cmc_status_form.specs.StatusForm as forms;
 

@@ -7,7 +7,7 @@ use Rattle.serde_json.specs.View.{view, items_view}
 use Rattle.serde_json.specs.declared.value.Value.{Value}
 use Rattle.cmc_meta.specs.declared.key.Key.{Key}
 use Rattle.cmc_summary.specs.declared.summary.Waiting.{Waiting}
-use Rattle.cmc_cursor.specs.Reading.{Read, ◌>>=◌, under}
+use Rattle.cmc_cursor.specs.Members.{Read, ◌>>=◌, under}
 use Rattle.cmc_cursor.specs.Readers.{with_front}
 use Rattle.cmc_summary_form.specs.SummaryForm.{next_waiting_at, waits_from, all_waits, last_key}
 

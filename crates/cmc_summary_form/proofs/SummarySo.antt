@@ -12,7 +12,7 @@ use Rattle.cmc_meta.specs.declared.key.Kind.TheVariants.{Certificate}
 use Rattle.cmc_meta.proofs.KeyOrder.{key_cmp-total}
 use Rattle.cmc_summary.specs.declared.summary.Summary.{Summary}
 use Rattle.cmc_summary.specs.declared.summary.Waiting.{Waiting}
-use Rattle.cmc_cursor.specs.Reading.{◌>>=◌, under, Field, fields_at, at_end}
+use Rattle.cmc_cursor.specs.Members.{◌>>=◌, under, Field, fields_at, at_end}
 use Rattle.cmc_cursor.specs.Readers.{count_at}
 use Rattle.cmc_cursor.proofs.Always.{Always, so, failed, next, after, below, where_true}
 use Rattle.cmc_codec.specs.Given.{needed_at}

@@ -15,7 +15,7 @@ use Rattle.cmc_summary.specs.declared.summary.Summary.{Summary}
 use Rattle.cmc_summary.specs.declared.summary.Waiting.{Waiting}
 use Rattle.cmc_summary.specs.declared.summary.WaitName.{WaitName}
 use Rattle.cmc_summary.specs.declared.summary.WaitName.TheVariants.{Stopped, Backoff, Key as NoKey, Unapproved, Name, Pending}
-use Rattle.cmc_cursor.specs.Reading.{Read, ◌>>=◌, under, Field, fields_at, at_end}
+use Rattle.cmc_cursor.specs.Members.{Read, ◌>>=◌, under, Field, fields_at, at_end}
 use Rattle.cmc_cursor.specs.Readers.{found, text_at, count_at}
 use Rattle.cmc_codec.specs.Given.{needed_at}
 use Rattle.cmc_material.specs.MaterialRows.{certificate_key_at}

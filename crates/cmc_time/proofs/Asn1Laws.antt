@@ -4,7 +4,7 @@ use Rattle.std.proofs.lemmas.Bool.Decides.{nat_tests}
 use Rattle.std.proofs.lemmas.Option.{none-some}
 use Rattle.cmc_time.specs.Texts.{two_digits, four_digits}
 use Rattle.cmc_time.specs.Asn1.{IsUtcTime, IsGeneralizedTime, IsAsn1Time}
-use Rattle.cmc_time.specs.Reading.{two_digits_at, four_digits_at, moment_of_year_at, second_at, full_year, utc_time_seconds, generalized_time_seconds, asn1_seconds}
+use Rattle.cmc_time.specs.TimeTexts.{two_digits_at, four_digits_at, moment_of_year_at, second_at, full_year, utc_time_seconds, generalized_time_seconds, asn1_seconds}
 use Rattle.cmc_time.proofs.Steps.{bind_some}
 use Rattle.cmc_time.proofs.Texts.{two_digits_again, two_digits_found, four_digits_again, four_digits_found, moment_again, moment_found}
 use Rattle.cmc_time.proofs.Rfc3339Laws.{second_again, second_found, HasTwoDigits-IsMoment}

@@ -11,7 +11,7 @@ use Rattle.std.specs.Fmt.{decimal}
 use Rattle.std.specs.Str.{all_ascii_digits}
 use Rattle.std.specs.Str.Parse.{digits_value}
 use Rattle.cmc_time.specs.Durations.{hour_unit, minute_unit, second_unit, longest, duration_of, HasCount, IsDurationPart, HasParts, IsDuration, go_duration}
-use Rattle.cmc_time.specs.DurationReading.{part_from, part_at, sum_of, parts_seconds, duration_seconds}
+use Rattle.cmc_time.specs.DurationTexts.{part_from, part_at, sum_of, parts_seconds, duration_seconds}
 use Rattle.cmc_time.proofs.Digits.{are_digits, prefix_len-digits, own}
 use Rattle.cmc_time.proofs.Steps.{guard_some}
 use borrow.Author.Tests.{ltb-true, ltb-false}

@@ -5,7 +5,7 @@ use Rattle.jiff_core.proofs.CalendarLemmas.{days_in_month_bounds}
 use Rattle.cmc_time.specs.Moment.{IsMoment, seconds_of}
 use Rattle.cmc_time.specs.Texts.{four_digits, HasTwoDigits}
 use Rattle.cmc_time.specs.Rfc3339.{IsRfc3339, rfc3339, rfc3339_text}
-use Rattle.cmc_time.specs.Reading.{four_digits_at, moment_of_year_at, is_moment, second_at, rfc3339_seconds}
+use Rattle.cmc_time.specs.TimeTexts.{four_digits_at, moment_of_year_at, is_moment, second_at, rfc3339_seconds}
 use Rattle.cmc_time.specs.declared.moment.Moment.{Moment}
 use Rattle.cmc_time.proofs.Steps.{bind_some, guard_some}
 use Rattle.cmc_time.proofs.Inverse.{moment_of-seconds_of}

@@ -5,7 +5,7 @@ use Rattle.std.proofs.lemmas.Option.{none-some}
 use Rattle.std.proofs.lemmas.Slice.Eq.{bytes_eq-Decides}
 use Rattle.std.specs.Int.{IsInRange, is_in_range}
 use Rattle.cmc_time.specs.Texts.{two_digits, four_digits, after_year, HasTwoDigits}
-use Rattle.cmc_time.specs.Reading.{mark_at, two_digits_at, four_digits_at, marked_at, moment_of_year_at}
+use Rattle.cmc_time.specs.TimeTexts.{mark_at, two_digits_at, four_digits_at, marked_at, moment_of_year_at}
 use Rattle.cmc_time.specs.declared.moment.Moment.{Moment}
 use Rattle.cmc_time.proofs.Steps.{bind_some, guard_some}
 

@@ -5,7 +5,7 @@ ghost use Rattle.cmc_time.specs.Asn1.{IsAsn1Time, IsCertificateTime, asn1_tag, a
 ghost use Rattle.cmc_time.specs.Asn1 as spec;
 ghost use Rattle.cmc_time.specs.Moment.{IsMoment};
 ghost use Rattle.cmc_time.specs.Texts.{HasTwoDigits};
-ghost use Rattle.cmc_time.specs.Reading as reads;
+ghost use Rattle.cmc_time.specs.TimeTexts as reads;
 
 use crate::moment::Moment;
 use crate::{BadTime, moment, reading, writing};
@@ -27,7 +27,7 @@ fn full_year(short: u8) -> u16
     }
 }
 
-#[tactic(auto, unfolding(crate::specs::Reading::utc_time_seconds))]
+#[tactic(auto, unfolding(crate::specs::TimeTexts::utc_time_seconds))]
 fn utc_time_at(text: &[u8]) -> Option<i64>
     ensures { result ≡ reads.utc_time_seconds text.now }
 {
@@ -36,7 +36,7 @@ fn utc_time_at(text: &[u8]) -> Option<i64>
     moment::second_at(moment)
 }
 
-#[tactic(auto, unfolding(crate::specs::Reading::generalized_time_seconds))]
+#[tactic(auto, unfolding(crate::specs::TimeTexts::generalized_time_seconds))]
 fn generalized_time_at(text: &[u8]) -> Option<i64>
     ensures { result ≡ reads.generalized_time_seconds text.now }
 {
@@ -48,7 +48,7 @@ fn generalized_time_at(text: &[u8]) -> Option<i64>
     moment::second_at(moment)
 }
 
-#[tactic(auto, unfolding(crate::specs::Reading::asn1_seconds))]
+#[tactic(auto, unfolding(crate::specs::TimeTexts::asn1_seconds))]
 fn asn1_time_at(tag: u8, text: &[u8]) -> Option<i64>
     ensures { result ≡ reads.asn1_seconds tag text.now }
 {

@@ -4,7 +4,7 @@ ghost use Rattle.std.specs.Result.{result_ok};
 ghost use Rattle.std.specs.Str.{all_ascii_digits};
 ghost use Rattle.std.specs.Str.Parse.{digits_value};
 ghost use Rattle.cmc_time.specs.Durations.{IsDuration, go_duration, longest};
-ghost use Rattle.cmc_time.specs.DurationReading as reads;
+ghost use Rattle.cmc_time.specs.DurationTexts as reads;
 
 use std::alloc::{AllocError, Global};
 
@@ -52,7 +52,7 @@ fn part_from<'a>(unit: u8, text: &'a [u8], digits: &[u8], rest: &'a [u8]) -> (u6
 }
 
 // The count of a part with this unit, and what follows it; or 0 and the whole text, where it begins with none.
-#[tactic(auto, unfolding(crate::specs::DurationReading::part_at), using(crate::proofs::Digits::are_digits))]
+#[tactic(auto, unfolding(crate::specs::DurationTexts::part_at), using(crate::proofs::Digits::are_digits))]
 fn part_at(unit: u8, text: &[u8]) -> (u64, &[u8])
     ensures value { reads.part_view result ≡ reads.part_at unit text.now }
     ensures bound { result.0 < 10 ^ 9 }
@@ -75,7 +75,7 @@ fn sum_of(text: &[u8], hours: u64, minutes: u64, seconds: u64, rest: &[u8]) -> O
     }
 }
 
-#[tactic(auto, unfolding(crate::specs::DurationReading::parts_seconds))]
+#[tactic(auto, unfolding(crate::specs::DurationTexts::parts_seconds))]
 fn parts_seconds(text: &[u8]) -> Option<u64>
     ensures { result ≡ reads.parts_seconds text.now }
 {
@@ -85,7 +85,7 @@ fn parts_seconds(text: &[u8]) -> Option<u64>
     sum_of(text, hours, minutes, seconds, rest)
 }
 
-#[tactic(auto, unfolding(crate::specs::DurationReading::duration_seconds))]
+#[tactic(auto, unfolding(crate::specs::DurationTexts::duration_seconds))]
 fn duration_seconds(text: &str) -> Option<u64>
     ensures { result ≡ reads.duration_seconds text.now }
 {

@@ -3,7 +3,7 @@ ghost use Rattle.std.specs.Prelude.{◌≡◌, ◌<◌, ◌≤◌, pos, neg_ℤ,
 ghost use Rattle.jiff_core.specs.Calendar.{IsBetween, IsEpochDay};
 ghost use Rattle.jiff_core.specs.Date.{epoch_day};
 ghost use Rattle.cmc_time.specs.Moment.{IsMoment, IsPrintable, moment_of, seconds_of};
-ghost use Rattle.cmc_time.specs.Reading as reading;
+ghost use Rattle.cmc_time.specs.TimeTexts as reading;
 
 use jiff_core::civil;
 use jiff_core::civil::Date;

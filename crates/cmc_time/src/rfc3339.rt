@@ -3,7 +3,7 @@ ghost use Rattle.std.specs.Prelude.{◌≡◌, ℤ, IfOk, string_bytes};
 ghost use Rattle.std.specs.Result.{result_ok};
 ghost use Rattle.cmc_time.specs.Rfc3339.{IsRfc3339, rfc3339};
 ghost use Rattle.cmc_time.specs.Moment.{IsPrintable};
-ghost use Rattle.cmc_time.specs.Reading.{rfc3339_seconds};
+ghost use Rattle.cmc_time.specs.TimeTexts.{rfc3339_seconds};
 
 use crate::{moment, reading, writing};
 use std::alloc::{AllocError, Global};
@@ -12,7 +12,7 @@ use std::alloc::{AllocError, Global};
 #[derive(Clone, Copy)]
 pub struct BadTime;
 
-#[tactic(auto, unfolding(crate::specs::Reading::rfc3339_seconds))]
+#[tactic(auto, unfolding(crate::specs::TimeTexts::rfc3339_seconds))]
 fn seconds_in(text: &str) -> Option<i64>
     ensures { result ≡ rfc3339_seconds text.now }
 {

@@ -30,9 +30,9 @@ use Rattle.cmc_objects.specs.Objects.{numbered}
 use Rattle.cmc_model.specs.Stored.{with_status}
 use Rattle.cmc_rules.specs.Dates.{IsDatedStatus}
 use Rattle.cmc_rules.specs.Chains.{trigger_chain, trigger_reason}
-use Rattle.cmc_rules.specs.Triggering.{trigger, for_option, for_certificate, for_reason, frame_of, is_issuing, is_backing_off, is_in_back_off, is_waiting_since, issuing_condition, issuing_status, with_issuing, issue_call}
+use Rattle.cmc_rules.specs.Trigger.{trigger, for_option, for_certificate, for_reason, frame_of, is_issuing, is_backing_off, is_in_back_off, is_waiting_since, issuing_condition, issuing_status, with_issuing, issue_call}
 use Rattle.cmc_rules.specs.Acts.{act, call_after}
-use Rattle.cmc_rules.specs.Sighting.{OnSeen}
+use Rattle.cmc_rules.specs.SeenObjects.{OnSeen}
 use Rattle.cmc_rules.specs.Sound.{IsWithin, IsEndOfBackoff, IsRenewal, IsTriggerMoment, views_shown, IsSound}
 use Rattle.cmc_rules.proofs.Sights.{seen_certificate}
 use Rattle.cmc_rules.proofs.Conditions.{others-transitioned}

@@ -3,7 +3,7 @@ ghost use Rattle.std.specs.Option.{option_copied};
 ghost use Rattle.std.specs.Prelude.{◌≡◌, IfOk};
 ghost use Rattle.cmc_objects.specs.declared.role.Role.TheVariants.{Trigger};
 ghost use Rattle.cmc_rules.specs.Acts as acts;
-ghost use Rattle.cmc_rules.specs.Triggering as spec;
+ghost use Rattle.cmc_rules.specs.Trigger as spec;
 ghost use Rattle.cmc_rules.specs.Dates.{IsDatedOption, HasDatedFailure};
 
 use crate::issuing::{is_issuing, issue_call};
@@ -64,7 +64,7 @@ fn for_reason(
     issue_call(alloc, moment, reason, certificate)
 }
 
-#[tactic(auto, unfolding(cmc_rules::specs::Triggering::for_certificate))]
+#[tactic(auto, unfolding(cmc_rules::specs::Trigger::for_certificate))]
 fn for_certificate(
     alloc: Global,
     moment: i64,
@@ -100,7 +100,7 @@ fn for_certificate(
 ///
 /// The moment of the Certificate's last failure, where there is one, has to lie in the years 1950 to 9999
 /// (`HasDatedFailure`): the back-off is counted from it.
-#[tactic(auto, unfolding(cmc_rules::specs::Acts::act, cmc_rules::specs::Triggering::trigger))]
+#[tactic(auto, unfolding(cmc_rules::specs::Acts::act, cmc_rules::specs::Trigger::trigger))]
 pub fn act(alloc: Global, views: &Views, now: i64, desk: &Desk) -> Result<Act, AllocError>
     requires { HasDatedFailure views.now }
     ensures { IfOk result (λ a. a ≡ acts.act Trigger views.now now desk.now) }

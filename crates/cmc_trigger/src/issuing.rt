@@ -5,7 +5,7 @@ ghost use Rattle.cmc_meta.specs.declared.conditions.Tri.TheVariants.{True};
 ghost use Rattle.cmc_meta.specs.ConditionLists.{condition_rank, tri_eq};
 ghost use Rattle.cmc_objects.specs.Requests.{is_stated};
 ghost use Rattle.cmc_policies.specs.Reasons.{reason_name};
-ghost use Rattle.cmc_rules.specs.Triggering as spec;
+ghost use Rattle.cmc_rules.specs.Trigger as spec;
 
 use cmc_meta::{Condition, ConditionKind, Text, Tri};
 use cmc_objects::{Call, CertStatus, Certificate, Object, Shared};
@@ -37,7 +37,7 @@ fn message(alloc: Global, reason: Reason) -> Result<Text, AllocError>
     Text::from_str(alloc, message.as_str())
 }
 
-#[tactic(auto, unfolding(cmc_rules::specs::Triggering::issuing_condition))]
+#[tactic(auto, unfolding(cmc_rules::specs::Trigger::issuing_condition))]
 fn condition(alloc: Global, moment: i64, reason: Reason) -> Result<Condition, AllocError>
     ensures { IfOk result (λ c. c ≡ spec.issuing_condition moment reason) }
 {
@@ -50,7 +50,7 @@ fn condition(alloc: Global, moment: i64, reason: Reason) -> Result<Condition, Al
     })
 }
 
-#[tactic(auto, unfolding(cmc_rules::specs::Triggering::issuing_status))]
+#[tactic(auto, unfolding(cmc_rules::specs::Trigger::issuing_status))]
 fn status_with(
     alloc: Global,
     moment: i64,
@@ -64,7 +64,7 @@ fn status_with(
     Ok(changed)
 }
 
-#[tactic(auto, unfolding(cmc_rules::specs::Triggering::with_issuing))]
+#[tactic(auto, unfolding(cmc_rules::specs::Trigger::with_issuing))]
 fn with_issuing(
     alloc: Global,
     moment: i64,
@@ -82,7 +82,7 @@ fn with_issuing(
 }
 
 /// The status update, at the version of the Certificate, that asks for its issuance for this reason.
-#[tactic(auto, unfolding(cmc_rules::specs::Triggering::issue_call))]
+#[tactic(auto, unfolding(cmc_rules::specs::Trigger::issue_call))]
 pub fn issue_call(
     alloc: Global,
     moment: i64,

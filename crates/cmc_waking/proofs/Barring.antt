@@ -10,8 +10,8 @@ use Rattle.cmc_rules.specs.declared.progress.Ending.{Ending}
 use Rattle.cmc_rules.specs.declared.progress.Ending.TheVariants as endings
 use Rattle.cmc_rules.specs.declared.progress.Obstacle.TheVariants.{Failure, Newer}
 use Rattle.cmc_rules.specs.Positions.{position_of}
-use Rattle.cmc_waking.specs.Parking.{ahead, obstacle_ahead, own_ahead}
-use Rattle.cmc_waking.specs.Waking.{IsStoppedAt}
+use Rattle.cmc_waking.specs.Parked.{ahead, obstacle_ahead, own_ahead}
+use Rattle.cmc_waking.specs.WakeUps.{IsStoppedAt}
 
 -- the role is not yet told of it
 abbrev pub IsBehind : Positions → Option Parked → Type 0

@@ -19,7 +19,7 @@ use Rattle.cmc_objects.specs.declared.orders.Order.{Order}
 use Rattle.cmc_objects.specs.declared.orders.Rules.{Rules}
 use Rattle.cmc_objects.specs.declared.orders.Signing.{Signing}
 use Rattle.cmc_objects.specs.declared.role.Role.{Role}
-use Rattle.cmc_objects.specs.Watching.{has_informer}
+use Rattle.cmc_objects.specs.Informers.{has_informer}
 use Rattle.cmc_pass.specs.declared.pass.Act.TheVariants.{Nothing}
 use Rattle.cmc_pass.specs.declared.pass.Desk.{Desk}
 use Rattle.cmc_pass.specs.declared.pass.Views.{Views}
@@ -47,14 +47,14 @@ use Rattle.cmc_rules.specs.Memory.{ending_at, ending_of, no_past, past, past_cal
 use Rattle.cmc_rules.specs.Passes.{is_pass_of, open_pass, IsWorking}
 use Rattle.cmc_rules.specs.Positions.{position, position_of, positions}
 use Rattle.cmc_rules.specs.Sound as sound
-use Rattle.cmc_rules.specs.Viewing.{Caches, caches, views, views_in}
+use Rattle.cmc_rules.specs.Views.{Caches, caches, views, views_in}
 use Rattle.cmc_rules.proofs.Positions.{positions_low, views_called}
 use Rattle.cmc_queue.proofs.OneRow.{equal_keys}
 use Rattle.cmc_queue.proofs.OneRow.{same_by_test}
 use Rattle.cmc_moves.specs.Quiet.{no_views}
-use Rattle.cmc_waking.specs.Parking.{ahead, own_ahead}
-use Rattle.cmc_waking.specs.Feeding.{row_begun, closed, started, row_delivered, waiting}
-use Rattle.cmc_waking.specs.Waking.{IsIdleAt, IsRowKept, IsTended, IsTimed}
+use Rattle.cmc_waking.specs.Parked.{ahead, own_ahead}
+use Rattle.cmc_waking.specs.Feeds.{row_begun, closed, started, row_delivered, waiting}
+use Rattle.cmc_waking.specs.WakeUps.{IsIdleAt, IsRowKept, IsTended, IsTimed}
 use Rattle.cmc_waking.proofs.Owners.{AreSameOwners, equal_roles, none_ended, none_open, none_stopped, owners_asked, owners_begun, owners_called, owners_ended, owners_given, owners_stopped, same_role, works_begun}
 use Rattle.cmc_waking.proofs.Remembered.{last_called, remembered, IsRemembered, RemembersPass}
 use Rattle.cmc_waking.proofs.Tended.{kept_begun, kept_closed, kept_started, kept_ticked, kept_told, kept_working, IsFair}

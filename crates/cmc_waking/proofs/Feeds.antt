@@ -17,8 +17,8 @@ use Rattle.cmc_queue.proofs.OneRow.{key_tie, same_by_test, same_key}
 use Rattle.cmc_caches.specs.Affected.{is_among}
 use Rattle.cmc_rules.specs.declared.progress.Ending.{Ending}
 use Rattle.cmc_rules.specs.declared.progress.Ending.TheVariants as endings
-use Rattle.cmc_waking.specs.Feeding.{added_if}
-use Rattle.cmc_waking.specs.Parking.{obstacle_ahead, waits_for}
+use Rattle.cmc_waking.specs.Feeds.{added_if}
+use Rattle.cmc_waking.specs.Parked.{obstacle_ahead, waits_for}
 use Rattle.cmc_waking.specs.Queues.{HasPlaceAt, HasPlaceFor, HasRooms, WakesSome}
 
 -- ---- one row, twice

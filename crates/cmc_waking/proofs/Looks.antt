@@ -12,12 +12,12 @@ use Rattle.cmc_model.specs.Histories.{Setting, moment}
 use Rattle.cmc_rules.specs.Memory.{past}
 use Rattle.cmc_rules.specs.Passes.{IsWorking}
 use Rattle.cmc_rules.specs.Positions.{position_of, positions}
-use Rattle.cmc_rules.specs.Resting.{IsIdle}
+use Rattle.cmc_rules.specs.Rest.{IsIdle}
 use Rattle.cmc_rules.specs.Sound as sound
-use Rattle.cmc_rules.specs.Viewing.{views}
+use Rattle.cmc_rules.specs.Views.{views}
 use Rattle.cmc_moves.specs.Quiet.{seen_last, IsQuiet}
-use Rattle.cmc_waking.specs.Feeding.{found_busy, found_parked, found_idle, found_quiet, timed_too}
-use Rattle.cmc_waking.specs.Waking.{IsDueNow, IsStoppedFor, IsTended, IsTimed}
+use Rattle.cmc_waking.specs.Feeds.{found_busy, found_parked, found_idle, found_quiet, timed_too}
+use Rattle.cmc_waking.specs.WakeUps.{IsDueNow, IsStoppedFor, IsTended, IsTimed}
 use Rattle.cmc_waking.proofs.Promise.{idle_anywhere, idle_now}
 use Rattle.cmc_waking.proofs.Tended.{kept_busy, kept_held, kept_idle, kept_quiet}
 

@@ -26,7 +26,7 @@ use Rattle.cmc_rules.specs.declared.progress.Stage.{Stage}
 use Rattle.cmc_rules.specs.declared.progress.Stage.TheVariants.{Asked}
 use Rattle.cmc_rules.specs.Legality.{IsLegal}
 use Rattle.cmc_rules.specs.Passes.{called, given, is_pass_of, new_pass, open_pass, stage_after, stage_given, unless_of, with_stage, IsWorking}
-use Rattle.cmc_rules.specs.Viewing.{views}
+use Rattle.cmc_rules.specs.Views.{views}
 use Rattle.cmc_rules.proofs.Passes.{closed_beyond}
 use Rattle.cmc_queue.proofs.OneRow.{same_by_test}
 use Rattle.cmc_queue.proofs.OneRow.{equal_keys}

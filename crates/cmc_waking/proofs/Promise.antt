@@ -16,11 +16,11 @@ use Rattle.cmc_rules.specs.Acts.{act}
 use Rattle.cmc_rules.specs.Desks.{desk}
 use Rattle.cmc_rules.specs.Memory.{past}
 use Rattle.cmc_rules.specs.Positions.{position_of, positions}
-use Rattle.cmc_rules.specs.Resting.{IsIdle}
+use Rattle.cmc_rules.specs.Rest.{IsIdle}
 use Rattle.cmc_rules.specs.Sound as sound
-use Rattle.cmc_rules.specs.Viewing.{views}
+use Rattle.cmc_rules.specs.Views.{views}
 use Rattle.cmc_moves.specs.Quiet.{seen_last, IsQuiet}
-use Rattle.cmc_waking.specs.Waking.{AreTended, IsAsleep, IsCovered, IsDueNow, WaitsForVersion, IsIdleAt, IsRowKept, IsLooked, IsSearched, IsLookedOrWaiting, IsTended, IsTimedBy, IsWaiting, LosesNoWakeUp}
+use Rattle.cmc_waking.specs.WakeUps.{AreTended, IsAsleep, IsCovered, IsDueNow, WaitsForVersion, IsIdleAt, IsRowKept, IsLooked, IsSearched, IsLookedOrWaiting, IsTended, IsTimedBy, IsWaiting, LosesNoWakeUp}
 use Rattle.cmc_waking.proofs.Tended.{waiting_undue}
 
 abbrev Kept : Bool → Setting → List Entry → Role → Key → Row → Type 0

@@ -23,7 +23,7 @@ use Rattle.cmc_rules.specs.declared.progress.LastPass.{LastPass}
 use Rattle.cmc_rules.specs.declared.progress.Past.{Past}
 use Rattle.cmc_model.specs.Replies.{is_accepted, key_of_call}
 use Rattle.cmc_model.specs.Histories.{Setting, accepted, role_eq}
-use Rattle.cmc_rules.specs.Viewing.{views}
+use Rattle.cmc_rules.specs.Views.{views}
 use Rattle.cmc_rules.specs.Passes.{open_pass, called, new_pass, stage_after, is_pass_of, IsWorking}
 use Rattle.cmc_rules.specs.Memory.{past, past_called, no_past, with_begin, with_own, with_ending, ending_of}
 use Rattle.cmc_rules.specs.Legality.{IsLegal}

@@ -5,12 +5,12 @@ use Rattle.cmc_meta.specs.declared.key.Key.{Key}
 use Rattle.cmc_meta.specs.Keys.{key_eq}
 use Rattle.cmc_objects.specs.declared.entry.Entry.{Entry}
 use Rattle.cmc_objects.specs.declared.role.Role.{Role}
-use Rattle.cmc_objects.specs.Watching.{kind_of_work}
+use Rattle.cmc_objects.specs.Informers.{kind_of_work}
 use Rattle.cmc_queue.specs.declared.row.Row.{Row}
 use Rattle.cmc_queue.specs.Rows.{no_row}
 use Rattle.cmc_queue.proofs.OneRow.{same_by_test}
 use Rattle.cmc_model.specs.Histories.{Setting}
-use Rattle.cmc_waking.specs.Waking.{AreTended, IsTended}
+use Rattle.cmc_waking.specs.WakeUps.{AreTended, IsTended}
 
 -- each row becomes f of what it was, and f keeps what is kept of each key of the role's work, and makes no row of another
 pub are_changed : (s : Setting) (h g : List Entry) (role : Role) (old new : Key → Row) (f : Key → Row → Row) → ((key : Key) → new key ≡ f key (old key))

@@ -28,9 +28,9 @@ use Rattle.cmc_rules.specs.Positions.{position_of}
 use Rattle.cmc_rules.specs.Sameness.{own_above, EndsAlike, IsDue, IsSame}
 use Rattle.cmc_rules.specs.Sound as sound
 use Rattle.cmc_moves.specs.Quiet.{no_views, seen_last}
-use Rattle.cmc_waking.specs.Parking.{ahead, own_ahead}
-use Rattle.cmc_waking.specs.Feeding.{row_begun, closed, found_busy, found_parked, found_idle, found_quiet, started, timed_too, row_delivered, waiting}
-use Rattle.cmc_waking.specs.Waking.{IsAsleep, IsBusy, IsIdleAt, IsRowKept, IsLooked, IsNoted, IsLookedOrWaiting, IsStoppedAt, IsStoppedFor, IsTimed, IsTimedBy, IsUnchanged, IsWaiting}
+use Rattle.cmc_waking.specs.Parked.{ahead, own_ahead}
+use Rattle.cmc_waking.specs.Feeds.{row_begun, closed, found_busy, found_parked, found_idle, found_quiet, started, timed_too, row_delivered, waiting}
+use Rattle.cmc_waking.specs.WakeUps.{IsAsleep, IsBusy, IsIdleAt, IsRowKept, IsLooked, IsNoted, IsLookedOrWaiting, IsStoppedAt, IsStoppedFor, IsTimed, IsTimedBy, IsUnchanged, IsWaiting}
 
 -- ---- positions
 

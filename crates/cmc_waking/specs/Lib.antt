@@ -1,4 +1,4 @@
-pub mod Parking
-pub mod Feeding
-pub mod Waking
+pub mod Parked
+pub mod Feeds
+pub mod WakeUps
 pub mod Queues

@@ -4,8 +4,8 @@ ghost use Rattle.cmc_meta.specs.declared.key.Key.{Key as KeyValue};
 ghost use Rattle.cmc_queue.specs.Queues.{fresh_count, has_room, has_room_for, row_of, ChangesRow, KeepsRoom};
 ghost use Rattle.cmc_queue.specs.Rows.{is_fresh};
 ghost use Rattle.cmc_caches.specs.Affected.{is_among};
-ghost use Rattle.cmc_waking.specs.Feeding as words;
-ghost use Rattle.cmc_waking.specs.Parking.{waits_for};
+ghost use Rattle.cmc_waking.specs.Feeds as words;
+ghost use Rattle.cmc_waking.specs.Parked.{waits_for};
 ghost use Rattle.cmc_waking.specs.Queues.{HasPlaceAt, HasPlaceFor, HasRooms, WakesSome};
 
 use crate::parking::{obstacle_ahead, own_ahead};

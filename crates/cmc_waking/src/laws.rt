@@ -5,7 +5,7 @@ ghost use Rattle.cmc_objects.specs.declared.entry.Entry.{Entry};
 ghost use Rattle.cmc_objects.specs.declared.role.Role.{Role};
 ghost use Rattle.cmc_model.specs.Histories.{Setting, runs};
 ghost use Rattle.cmc_queue.specs.declared.row.Row.{Row};
-ghost use Rattle.cmc_waking.specs.Waking.{AreTended, IsSearched, IsTended, LosesNoWakeUp};
+ghost use Rattle.cmc_waking.specs.WakeUps.{AreTended, IsSearched, IsTended, LosesNoWakeUp};
 
 /// A law: rows that are tended lose no wake-up of a role that runs, and say what searches have to find.
 pub fn no_wake_up_is_lost()

@@ -3,8 +3,8 @@ ghost use Rattle.std.specs.Option.{option_copied};
 ghost use Rattle.std.specs.Prelude.{◌≡◌, ◌<◌, ◌≤◌, IfSome};
 ghost use Rattle.cmc_held.specs.Remembered.{past_or_new};
 ghost use Rattle.cmc_rules.specs.Positions.{position_of};
-ghost use Rattle.cmc_waking.specs.Parking as words;
-ghost use Rattle.cmc_waking.specs.Waking.{IsBarredBy, IsStoppedFor};
+ghost use Rattle.cmc_waking.specs.Parked as words;
+ghost use Rattle.cmc_waking.specs.WakeUps.{IsBarredBy, IsStoppedFor};
 
 use cmc_held::at_kind;
 use cmc_meta::Kind;

@@ -5,8 +5,8 @@ ghost use Rattle.cmc_objects.specs.declared.role.Role.{Role as RoleValue};
 ghost use Rattle.cmc_queue.specs.Queues.{fresh_count, has_room, has_room_at, has_room_for, has_room_to_find, ChangesRow, ChangesRows, KeepsRoom};
 ghost use Rattle.cmc_queue.specs.Rows.{is_fresh, no_row, ticked};
 ghost use Rattle.cmc_caches.specs.Affected.{is_among};
-ghost use Rattle.cmc_waking.specs.Feeding as words;
-ghost use Rattle.cmc_waking.specs.Parking.{waits_for};
+ghost use Rattle.cmc_waking.specs.Feeds as words;
+ghost use Rattle.cmc_waking.specs.Parked.{waits_for};
 ghost use Rattle.cmc_waking.specs.Queues.{queue_in, row_at, HasPlaceAt, HasPlaceFor, HasRooms, KeepsOthers, KeepsRooms, KeepsRows, WakesSome};
 
 use crate::feeding;

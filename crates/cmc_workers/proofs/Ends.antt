@@ -7,8 +7,8 @@ use Rattle.cmc_setup.specs.Setups.{Setup}
 use Rattle.cmc_world.specs.Kept.{Seen, setting_of}
 use Rattle.cmc_plain.specs.declared.run.Driven.{Driven}
 use Rattle.cmc_plain.specs.declared.run.Driven.TheVariants.{Finished, Spent}
-use Rattle.cmc_plain.specs.Driving.{IsDrained, IsDriven}
-use Rattle.cmc_workers.specs.Driving.{Drives, IsFinishedOn}
+use Rattle.cmc_plain.specs.Turns.{IsDrained, IsDriven}
+use Rattle.cmc_workers.specs.Drives.{Drives, IsFinishedOn}
 
 -- a finished world that is one of the scenario
 pub finished_on : (setup : Setup) (start world : Seen) (d : Driven) → IsDrained start d → d ≡ Finished world → world.scenario ≡ setup → IsFinishedOn setup world

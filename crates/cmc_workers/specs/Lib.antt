@@ -1,2 +1,2 @@
-pub mod Driving
-pub mod Finding
+pub mod Drives
+pub mod Findings

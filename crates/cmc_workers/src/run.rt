@@ -1,7 +1,7 @@
 //! Runs by threads, and what they leave by one hand.
 ghost use Rattle.std.specs.Prelude.{◌≡◌, IfOk};
-ghost use Rattle.cmc_plain.specs.Driving.{IsDriven};
-ghost use Rattle.cmc_workers.specs.Driving.{Drives};
+ghost use Rattle.cmc_plain.specs.Turns.{IsDriven};
+ghost use Rattle.cmc_workers.specs.Drives.{Drives};
 
 use crate::threads::in_threads;
 use cmc_answers::Signer;

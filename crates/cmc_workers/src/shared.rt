@@ -11,12 +11,12 @@
 //! these have nothing to do.
 ghost use Rattle.std.specs.Option.{option_copied};
 ghost use Rattle.std.specs.Prelude.{◌≡◌, ◌≤◌, ◌+◌, IfOk, IfSome, length, false};
-ghost use Rattle.cmc_rules.specs.Scripting.{scripted, step_at};
+ghost use Rattle.cmc_rules.specs.Scripts.{scripted, step_at};
 ghost use Rattle.cmc_plain.specs.Plain.{HasNoDelivery};
 ghost use Rattle.cmc_world.specs.Kept.{on};
-ghost use Rattle.cmc_workers.specs.Driving as spec;
-ghost use Rattle.cmc_workers.specs.Driving.{IsErrand};
-ghost use Rattle.cmc_workers.specs.Finding.{IsFound, IsWorkOpening};
+ghost use Rattle.cmc_workers.specs.Drives as spec;
+ghost use Rattle.cmc_workers.specs.Drives.{IsErrand};
+ghost use Rattle.cmc_workers.specs.Findings.{IsFound, IsWorkOpening};
 
 use crate::errands::{Answer, Errand, Outcome, Taken, Task};
 use cmc_meta::Key;

@@ -7,7 +7,7 @@
 //! answers, judgements) is made outside the lock, after the gate, and there issuing and the request manager decide, which
 //! read certificates and keys for it.
 ghost use Rattle.std.specs.Prelude.{IfOk, IfSome};
-ghost use Rattle.cmc_workers.specs.Driving.{CanBeDone};
+ghost use Rattle.cmc_workers.specs.Drives.{CanBeDone};
 
 use crate::errands::{Answer, Errand, Outcome, Task};
 use crate::shared::Shared;

@@ -25,8 +25,8 @@ use Rattle.cmc_rules.specs.Origins.{origins}
 use Rattle.cmc_rules.specs.Memory.{past}
 use Rattle.cmc_rules.specs.Legality.{IsLegalEntry, IsLegal, IsOpen}
 use Rattle.cmc_rules.specs.Causes.{MayAsk, MayGive, IsCausedEntry, IsCaused}
-use Rattle.cmc_rules.specs.Scripting.{scripted}
-use Rattle.cmc_rules.specs.Following.{owed, FollowsEntry, Follows}
+use Rattle.cmc_rules.specs.Scripts.{scripted}
+use Rattle.cmc_rules.specs.UserSteps.{owed, FollowsEntry, Follows}
 use Rattle.cmc_caches.specs.Told.{caches_at}
 use Rattle.cmc_safety.proofs.MayAct.{asked_short}
 use Rattle.cmc_moves.specs.Answers.{kept_at, kept_of, value_entry}

@@ -18,7 +18,7 @@ use Rattle.cmc_model.specs.declared.write.Write.{Write}
 use Rattle.cmc_model.specs.Histories.{Setting, runs}
 use Rattle.cmc_model.specs.Writes.{writes, is_known}
 use Rattle.cmc_rules.specs.Passes.{open_pass}
-use Rattle.cmc_rules.specs.Resting.{RestsOn, IsAtRest, IsUpToDate, RestsIn}
+use Rattle.cmc_rules.specs.Rest.{RestsOn, IsAtRest, IsUpToDate, RestsIn}
 use Rattle.cmc_world.specs.Rest.{EachRole, EachKind}
 
 -- ---- keys

@@ -13,7 +13,7 @@ use Rattle.cmc_rules.specs.declared.progress.Origin.{Origin}
 use Rattle.cmc_rules.specs.declared.progress.Past.{Past}
 use Rattle.cmc_model.specs.Histories.{Setting, moment, role_eq}
 use Rattle.cmc_rules.specs.Positions.{positions}
-use Rattle.cmc_rules.specs.Viewing.{views}
+use Rattle.cmc_rules.specs.Views.{views}
 use Rattle.cmc_rules.specs.Sameness.{IsDue}
 use Rattle.cmc_rules.specs.Origins.{begun}
 use Rattle.cmc_rules.specs.Passes.{new_pass}

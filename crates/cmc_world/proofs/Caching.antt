@@ -16,9 +16,9 @@ use Rattle.cmc_model.specs.Objects.{Objects}
 use Rattle.cmc_model.specs.Histories.{Setting, accepted, role_eq}
 use Rattle.cmc_model.specs.Writes.{writes, contents, oldest, of_kind, kind_eq}
 use Rattle.cmc_model.proofs.Writes.{objects_of-older, writes_count}
-use Rattle.cmc_objects.specs.Watching.{has_informer}
+use Rattle.cmc_objects.specs.Informers.{has_informer}
 use Rattle.cmc_rules.specs.Positions.{position, position_of, position_told, positions}
-use Rattle.cmc_rules.specs.Viewing.{Caches}
+use Rattle.cmc_rules.specs.Views.{Caches}
 use Rattle.cmc_rules.specs.Legality.{IsLegal}
 use Rattle.cmc_rules.proofs.Positions.{positions_low}
 use Rattle.cmc_held.specs.Dues.{shown_positions}

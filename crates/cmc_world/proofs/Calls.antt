@@ -25,12 +25,12 @@ use Rattle.cmc_model.specs.Replies.{State, IsReply, is_accepted, key_of_call, ke
 use Rattle.cmc_model.specs.Histories.{Setting, moment, state, accepted, role_eq}
 use Rattle.cmc_model.specs.Writes.{write_of, writes, last_under}
 use Rattle.cmc_rules.specs.Positions.{position_of}
-use Rattle.cmc_rules.specs.Issuing.{issuing}
+use Rattle.cmc_rules.specs.Issuance.{issuing}
 use Rattle.cmc_rules.specs.Passes.{open_pass, is_temporary_act, writes_temporary, stage_written, stage_by, stage_after, with_stage}
 use Rattle.cmc_rules.specs.Runs.{IsPartOfRun}
 use Rattle.cmc_rules.specs.Memory.{with_ending}
 use Rattle.cmc_rules.specs.Causes.{MayCall, MayEnd}
-use Rattle.cmc_rules.specs.Following.{written}
+use Rattle.cmc_rules.specs.UserSteps.{written}
 use Rattle.cmc_model.proofs.Writes.{writes_count}
 use Rattle.cmc_rules.proofs.Positions.{calls_short, accepted_short}
 use Rattle.cmc_rules.proofs.WellSeen.{SawAll, saw_all}
@@ -39,8 +39,8 @@ use Rattle.cmc_moves.proofs.Sounds.{each_sound}
 use Rattle.cmc_held.specs.declared.role_states.RoleState.{RoleState}
 use Rattle.cmc_world.specs.declared.advance.Calling.{Calling}
 use Rattle.cmc_world.specs.declared.advance.Closing.{Closing}
-use Rattle.cmc_world.specs.Going.{IsCalling, IsClosing}
-use Rattle.cmc_world.specs.Noting.{logged, own_write_counted, noted, CanCount}
+use Rattle.cmc_world.specs.Advances.{IsCalling, IsClosing}
+use Rattle.cmc_world.specs.Notes.{logged, own_write_counted, noted, CanCount}
 use Rattle.cmc_world.specs.Kept.{role_state, Holdings, IsKept}
 use Rattle.cmc_world.proofs.Counts.{logged_called, counted_called, noted_called, written_short}
 use Rattle.cmc_world.proofs.Events.{kept_called, kept_ended}

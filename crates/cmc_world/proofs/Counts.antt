@@ -17,10 +17,10 @@ use Rattle.cmc_model.proofs.Settling.{kind_of-settled}
 use Rattle.cmc_model.specs.Histories.{Setting, incarnation, role_eq}
 use Rattle.cmc_model.specs.Writes.{write_of}
 use Rattle.cmc_rules.specs.Memory.{with_own}
-use Rattle.cmc_rules.specs.Following.{written, is_write_by}
+use Rattle.cmc_rules.specs.UserSteps.{written, is_write_by}
 use Rattle.cmc_held.specs.declared.role_states.RoleState.{RoleState}
 use Rattle.cmc_world.specs.Changes.{writing}
-use Rattle.cmc_world.specs.Noting.{own_write_counted, logged, noted}
+use Rattle.cmc_world.specs.Notes.{own_write_counted, logged, noted}
 
 -- ---- counts that an entry each pays for
 

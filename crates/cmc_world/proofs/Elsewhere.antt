@@ -10,17 +10,17 @@ use Rattle.cmc_objects.specs.declared.request.CertificateRequest.{CertificateReq
 use Rattle.cmc_objects.specs.declared.object.Object.{Object}
 use Rattle.cmc_objects.specs.declared.role.Role.{Role}
 use Rattle.cmc_objects.specs.declared.entry.Entry.{Entry}
-use Rattle.cmc_objects.specs.Watching.{works_on_requests, kind_of_work}
+use Rattle.cmc_objects.specs.Informers.{works_on_requests, kind_of_work}
 use Rattle.cmc_model.specs.declared.write.Write.{Write}
 use Rattle.cmc_model.specs.Objects.{object_at}
 use Rattle.cmc_model.specs.Histories.{Setting, moment}
 use Rattle.cmc_model.specs.Writes.{writes, contents, oldest, kind_eq}
 use Rattle.cmc_rules.specs.Positions.{position, cache}
-use Rattle.cmc_rules.specs.Viewing.{certificate_in, request_in, certificate_at, request_at, views_of, views_in, views, present_views}
+use Rattle.cmc_rules.specs.Views.{certificate_in, request_in, certificate_at, request_at, views_of, views_in, views, present_views}
 use Rattle.cmc_rules.specs.Desks.{desk}
 use Rattle.cmc_rules.specs.Legality.{IsLegal}
-use Rattle.cmc_rules.specs.Resting.{IsIdle, IsPaused, IsUpToDate, RestsOn}
-use Rattle.cmc_rules.specs.Scripting.{held, has_held}
+use Rattle.cmc_rules.specs.Rest.{IsIdle, IsPaused, IsUpToDate, RestsOn}
+use Rattle.cmc_rules.specs.Scripts.{held, has_held}
 use Rattle.cmc_moves.proofs.Sounds.{each_sound}
 use Rattle.cmc_world.specs.Rest.{EachKind}
 use Rattle.cmc_world.proofs.Newest.{IsToldOfAll, views_newest}

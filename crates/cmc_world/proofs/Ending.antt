@@ -4,9 +4,9 @@ use Rattle.std.specs.Prelude.{◌↔◌, IsTrue}
 use Rattle.std.specs.declared.alloc.AllocError.{AllocError}
 use Rattle.cmc_objects.specs.declared.entry.Entry.{Entry}
 use Rattle.cmc_model.specs.Histories.{Setting}
-use Rattle.cmc_rules.specs.Scripting.{scripted}
-use Rattle.cmc_rules.specs.Resting.{IsAtRest}
-use Rattle.cmc_rules.specs.Following.{owed}
+use Rattle.cmc_rules.specs.Scripts.{scripted}
+use Rattle.cmc_rules.specs.Rest.{IsAtRest}
+use Rattle.cmc_rules.specs.UserSteps.{owed}
 use Rattle.cmc_rules.specs.Runs.{IsFinished}
 
 -- no step is left, and it is known whether all is at rest

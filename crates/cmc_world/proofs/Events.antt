@@ -21,20 +21,20 @@ use Rattle.cmc_model.specs.Replies.{State, IsReply, is_accepted, key_of_call, se
 use Rattle.cmc_model.specs.Histories.{Setting, moment, state, accepted, incarnation, role_eq}
 use Rattle.cmc_model.specs.Writes.{write_of}
 use Rattle.cmc_rules.specs.Positions.{positions}
-use Rattle.cmc_rules.specs.Viewing.{views}
+use Rattle.cmc_rules.specs.Views.{views}
 use Rattle.cmc_rules.specs.Origins.{begun, origins}
 use Rattle.cmc_rules.specs.Passes.{open_pass, stage_after, with_stage, unless_of, new_pass, is_pass_of}
 use Rattle.cmc_rules.specs.Memory.{past, no_past, with_begin, with_own, with_ending, ending_at, ending_of, past_called}
 use Rattle.cmc_rules.specs.Sameness.{IsDue}
 use Rattle.cmc_rules.specs.Legality.{IsDelivery, IsListing, IsBegin, IsOpen}
 use Rattle.cmc_rules.specs.Causes.{MayCall, MayEnd}
-use Rattle.cmc_rules.specs.Scripting.{scripted, step_at, held}
-use Rattle.cmc_rules.specs.Following.{owed, IsNextStep}
+use Rattle.cmc_rules.specs.Scripts.{scripted, step_at, held}
+use Rattle.cmc_rules.specs.UserSteps.{owed, IsNextStep}
 use Rattle.cmc_held.specs.declared.role_states.RoleState.{RoleState}
 use Rattle.cmc_world.specs.Kept.{role_state, Holdings, IsHoldingsOf, IsKept}
 use Rattle.cmc_world.specs.Changes.{telling, stopping, starting, writing, scripted_standing}
 use Rattle.cmc_held.specs.Dues.{shown_positions}
-use Rattle.cmc_rules.specs.Viewing.{Caches}
+use Rattle.cmc_rules.specs.Views.{Caches}
 use Rattle.cmc_caches.specs.Told.{caches_at}
 use Rattle.cmc_world.specs.Changes.{each_at}
 use Rattle.cmc_world.proofs.Caching.{IsTelling, caches_called, caches_delivered, caches_listed, caches_started}

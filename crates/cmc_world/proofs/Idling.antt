@@ -21,12 +21,12 @@ use Rattle.cmc_model.specs.Histories.{Setting, moment}
 use Rattle.cmc_rules.specs.Memory.{past, no_past}
 use Rattle.cmc_rules.specs.Sameness.{IsDue, IsSame}
 use Rattle.cmc_rules.specs.Positions.{positions}
-use Rattle.cmc_rules.specs.Resting.{IsIdle, IsPaused, RestsOn, IsUpToDate}
-use Rattle.cmc_rules.specs.Scripting.{has_held, held}
-use Rattle.cmc_safety.specs.Acting.{MayAct}
+use Rattle.cmc_rules.specs.Rest.{IsIdle, IsPaused, RestsOn, IsUpToDate}
+use Rattle.cmc_rules.specs.Scripts.{has_held, held}
+use Rattle.cmc_safety.specs.MayAct.{MayAct}
 use Rattle.cmc_safety.specs.Formed.{IsFormed}
 use Rattle.cmc_safety.proofs.Forms.{reply_seen}
-use Rattle.cmc_rules.specs.Viewing.{views, present_views}
+use Rattle.cmc_rules.specs.Views.{views, present_views}
 use Rattle.cmc_rules.specs.Sameness.{own_above}
 use Rattle.cmc_world.specs.Kept.{first_desk}
 use Rattle.cmc_rules.specs.Legality.{IsLegal}

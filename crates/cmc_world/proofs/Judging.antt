@@ -15,14 +15,14 @@ use Rattle.cmc_rules.specs.declared.progress.OpenPass.{OpenPass}
 use Rattle.cmc_rules.specs.declared.progress.Past.{Past}
 use Rattle.cmc_model.specs.Histories.{Setting, moment, accepted}
 use Rattle.cmc_model.specs.Writes.{writes, write_at, last_of_kind, is_known}
-use Rattle.cmc_objects.specs.Watching.{has_informer, kind_of_work}
+use Rattle.cmc_objects.specs.Informers.{has_informer, kind_of_work}
 use Rattle.cmc_rules.specs.Positions.{position, positions, position_of}
-use Rattle.cmc_rules.specs.Viewing.{Caches, views, views_in}
+use Rattle.cmc_rules.specs.Views.{Caches, views, views_in}
 use Rattle.cmc_rules.specs.Passes.{open_pass, is_pass_of}
 use Rattle.cmc_rules.specs.Memory.{past}
 use Rattle.cmc_rules.specs.Sameness.{IsSame}
 use Rattle.cmc_rules.specs.Legality.{IsOfKind, IsListing, IsOpen}
-use Rattle.cmc_rules.specs.Scripting.{held}
+use Rattle.cmc_rules.specs.Scripts.{held}
 use Rattle.cmc_held.specs.declared.role_states.RoleState.{RoleState}
 use Rattle.cmc_held.specs.RoleStates.{kind_flag_of}
 use Rattle.cmc_held.specs.Dues.{shown_positions}

@@ -6,7 +6,7 @@ use Rattle.cmc_meta.specs.declared.key.Kind.{Kind}
 use Rattle.cmc_objects.specs.declared.role.Role.{Role}
 use Rattle.cmc_objects.specs.declared.call.Call.{Call}
 use Rattle.cmc_objects.specs.declared.orders.Order.{Order}
-use Rattle.cmc_pass.specs.Giving.{order_of, value_of}
+use Rattle.cmc_pass.specs.GivenValues.{order_of, value_of}
 use Rattle.cmc_pass.specs.Values.{IsValue}
 use Rattle.cmc_pass.specs.declared.pass.Act.{Act}
 use Rattle.cmc_pass.specs.declared.pass.Act.TheVariants.{Ask as Asks}
@@ -26,8 +26,8 @@ use Rattle.cmc_rules.specs.Positions.{position}
 use Rattle.cmc_rules.specs.Passes.{open_pass}
 use Rattle.cmc_rules.specs.Legality.{IsLegalEntry, IsLegal, IsOpen}
 use Rattle.cmc_rules.specs.Causes.{IsCausedEntry, IsCaused, act_of, IsAsked, AsksBy, IsGivenBy, MayCall, MayAsk, MayGive, MayEnd}
-use Rattle.cmc_rules.specs.Scripting.{scripted, step_at}
-use Rattle.cmc_rules.specs.Following.{FollowsEntry, Follows, effect_of, owed}
+use Rattle.cmc_rules.specs.Scripts.{scripted, step_at}
+use Rattle.cmc_rules.specs.UserSteps.{FollowsEntry, Follows, effect_of, owed}
 use Rattle.cmc_rules.specs.Rights.{KeepsRights}
 use Rattle.cmc_rules.specs.Runs.{IsPartOfRun, IsRun}
 use Rattle.cmc_moves.specs.declared.moves.Move.{Move}
@@ -35,7 +35,7 @@ use Rattle.cmc_moves.specs.declared.moves.Move.TheVariants as moves
 use Rattle.cmc_moves.specs.declared.moves.Stepped.{Stepped}
 use Rattle.cmc_moves.specs.declared.moves.Stepped.TheVariants.{Done, Order as Tells}
 use Rattle.cmc_moves.specs.Answers.{IsEffect, IsOfPass, GrowsBy, next_effect, entries_of, delivered, beginning, Grows, LeavesAsked, Leaves, Answers, AnswersScript, kept_at, kept_of, asked_by, new_at, new_of, asked_once, value_entry}
-use Rattle.cmc_world.specs.Leading.{IsRight, IsStep, Lead, Extends}
+use Rattle.cmc_world.specs.Leads.{IsRight, IsStep, Lead, Extends}
 use Rattle.cmc_rules.specs.Safety.{IsSafe}
 use Rattle.cmc_safety.specs.Formed.{IsFormed}
 use Rattle.cmc_safety.proofs.Rights.{keeps_rights}

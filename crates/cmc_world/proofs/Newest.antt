@@ -17,9 +17,9 @@ use Rattle.cmc_model.specs.declared.write.Write.{Write}
 use Rattle.cmc_model.specs.Objects.{Objects, object_at}
 use Rattle.cmc_model.specs.Histories.{Setting, objects}
 use Rattle.cmc_model.specs.Writes.{writes, contents, kind_eq, last_of_kind, objects_of}
-use Rattle.cmc_objects.specs.Watching.{works_on_requests, looks_at_secret, looks_at_next, looks_at_requests, has_informer}
+use Rattle.cmc_objects.specs.Informers.{works_on_requests, looks_at_secret, looks_at_next, looks_at_requests, has_informer}
 use Rattle.cmc_rules.specs.Positions.{position}
-use Rattle.cmc_rules.specs.Viewing.{certificate_in, request_in, secret_in, next_in, owned_in, certificate_at, request_at, target_at, next_of, requests_of, of_certificate, views_of, views_in, views, present_views}
+use Rattle.cmc_rules.specs.Views.{certificate_in, request_in, secret_in, next_in, owned_in, certificate_at, request_at, target_at, next_of, requests_of, of_certificate, views_of, views_in, views, present_views}
 use Rattle.cmc_rules.specs.Legality.{IsLegal}
 use Rattle.cmc_model.proofs.Versions.{standing}
 use Rattle.cmc_rules.proofs.Versions.{version_keyed}

@@ -28,7 +28,7 @@ use Rattle.cmc_rules.specs.Passes.{open_pass}
 use Rattle.cmc_model.specs.Histories.{Setting}
 use Rattle.cmc_held.specs.declared.questions.Subject.{Subject}
 use Rattle.cmc_held.specs.Questioned.{Questioned, count_under, subject_named, asks_key_at, asks_issuer_at, keys_asked, answers_asked, asked_for}
-use Rattle.cmc_safety.specs.Acting.{IsUnbarred, IsNotBarred, MayAct}
+use Rattle.cmc_safety.specs.MayAct.{IsUnbarred, IsNotBarred, MayAct}
 use Rattle.cmc_safety.specs.Formed.{IsFormed}
 use Rattle.cmc_safety.proofs.MayAct.{may_act_pass}
 use Rattle.cmc_safety.proofs.Barred.{never_barred}
@@ -42,7 +42,7 @@ use Rattle.cmc_moves.specs.declared.moves.Move.TheVariants.{Next}
 use Rattle.cmc_moves.specs.declared.moves.Stepped.{Stepped}
 use Rattle.cmc_moves.specs.declared.moves.Stepped.TheVariants.{Done, Order as Tells, Spent}
 use Rattle.cmc_moves.specs.Answers.{kept_at, kept_of, new_at, new_of, next_answer, AnswersGoing, AnswersNext, Leaves, asked_once}
-use Rattle.cmc_moves.specs.Acting.{HasSecret, HasStatus, HasNext, hangs_on_act, IsDoingBy, IsDoing, IsGoingOn, IsJudged, IsNoMove, asked_in}
+use Rattle.cmc_moves.specs.PassActions.{HasSecret, HasStatus, HasNext, hangs_on_act, IsDoingBy, IsDoing, IsGoingOn, IsJudged, IsNoMove, asked_in}
 use Rattle.cmc_world.specs.Kept.{first_desk}
 use Rattle.cmc_moves.proofs.Sounds.{each_sound}
 

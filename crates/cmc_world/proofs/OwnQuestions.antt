@@ -21,13 +21,13 @@ use Rattle.cmc_rules.specs.declared.progress.Stage.{Stage}
 use Rattle.cmc_rules.specs.declared.progress.Stage.TheVariants.{Fresh, Asked, Given, Read, Saved, Wrote, Refused, Barred}
 use Rattle.cmc_rules.specs.Acts.{act}
 use Rattle.cmc_rules.specs.Desks.{desk}
-use Rattle.cmc_rules.specs.Viewing.{views}
+use Rattle.cmc_rules.specs.Views.{views}
 use Rattle.cmc_rules.specs.Passes.{open_pass, given, asking, is_as_seen, new_pass, stage_read, stage_written, stage_by, stage_after, stage_given}
 use Rattle.cmc_rules.specs.Causes.{IsAsked, AsksBy, MayAsk, IsGivenBy, MayGive, IsCaused}
 use Rattle.cmc_rules.specs.Runs.{IsRun}
 use Rattle.cmc_rules.proofs.Carrying.{over_step, over_begin, over_end, over_stop}
 use Rattle.cmc_safety.proofs.Course.{of_open, with_equation, over_own_entry, same_number}
-use Rattle.cmc_moves.specs.Acting.{HasOwnQuestion}
+use Rattle.cmc_moves.specs.PassActions.{HasOwnQuestion}
 
 abbrev Owns : OpenPass → Type 0
 Owns p = HasOwnQuestion p.stage (act p.role p.seen p.since)

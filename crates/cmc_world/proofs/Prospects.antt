@@ -22,9 +22,9 @@ use Rattle.cmc_rules.specs.Memory.{past}
 use Rattle.cmc_rules.specs.Passes.{IsWorking}
 use Rattle.cmc_rules.specs.Positions.{positions}
 use Rattle.cmc_rules.specs.Sameness.{IsDue, IsSame}
-use Rattle.cmc_rules.specs.Viewing.{views}
-use Rattle.cmc_safety.specs.Acting.{MayAct}
-use Rattle.cmc_moves.specs.Acting.{IsDoingBy, IsGoingOn, asked_in}
+use Rattle.cmc_rules.specs.Views.{views}
+use Rattle.cmc_safety.specs.MayAct.{MayAct}
+use Rattle.cmc_moves.specs.PassActions.{IsDoingBy, IsGoingOn, asked_in}
 use Rattle.cmc_moves.specs.Answers.{AnswersBegin, AnswersGoing, Bar, BarOf, FitsLimit, IsQueued, Need, asked_by, kept_at, new_at, new_of, next_answer}
 use Rattle.cmc_moves.specs.Prospects.{IsFirstActOf, IsProspect}
 use Rattle.cmc_moves.specs.declared.acts.Prospect.{Prospect}

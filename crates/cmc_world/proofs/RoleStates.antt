@@ -19,8 +19,8 @@ use Rattle.cmc_model.specs.Histories.{Setting, runs, incarnation, role_eq}
 use Rattle.cmc_model.specs.Writes.{kind_eq}
 use Rattle.cmc_rules.specs.Positions.{position}
 use Rattle.cmc_rules.specs.Passes.{open_pass}
-use Rattle.cmc_rules.specs.Scripting.{held, held_by, step_at}
-use Rattle.cmc_rules.specs.Following.{written, is_pass_by}
+use Rattle.cmc_rules.specs.Scripts.{held, held_by, step_at}
+use Rattle.cmc_rules.specs.UserSteps.{written, is_pass_by}
 use Rattle.cmc_held.specs.declared.role_states.RoleState.{RoleState}
 use Rattle.cmc_world.specs.Changes.{telling, stopping, starting, keeping, writing, scripted_standing}
 use Rattle.cmc_world.specs.Kept.{role_state}

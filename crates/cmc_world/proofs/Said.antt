@@ -7,10 +7,10 @@ use Rattle.cmc_rules.specs.Positions.{positions}
 use Rattle.cmc_rules.specs.Origins.{origins}
 use Rattle.cmc_rules.specs.Passes.{open_pass}
 use Rattle.cmc_rules.specs.Memory.{past}
-use Rattle.cmc_rules.specs.Scripting.{scripted}
+use Rattle.cmc_rules.specs.Scripts.{scripted}
 use Rattle.cmc_rules.specs.Legality.{IsLegal, IsLegalEntry}
 use Rattle.cmc_rules.specs.Causes.{IsCaused, IsCausedEntry}
-use Rattle.cmc_rules.specs.Following.{Follows, FollowsEntry, owed}
+use Rattle.cmc_rules.specs.UserSteps.{Follows, FollowsEntry, owed}
 use Rattle.cmc_rules.specs.Runs.{IsPartOfRun, IsRun}
 use Rattle.cmc_rules.specs.Desks.{asked}
 use Rattle.cmc_held.specs.Questioned.{asks_key_at, asks_issuer_at}

@@ -22,8 +22,8 @@ use Rattle.cmc_model.specs.Histories.{Setting, moment, state, objects, accepted,
 use Rattle.cmc_model.specs.Writes.{write_of}
 use Rattle.cmc_rules.specs.Passes.{unless_of}
 use Rattle.cmc_rules.specs.Memory.{no_past}
-use Rattle.cmc_rules.specs.Scripting.{scripted, step_at}
-use Rattle.cmc_rules.specs.Following.{call_of, call_or, effect_of, owed, IsNextStep}
+use Rattle.cmc_rules.specs.Scripts.{scripted, step_at}
+use Rattle.cmc_rules.specs.UserSteps.{call_of, call_or, effect_of, owed, IsNextStep}
 use Rattle.cmc_model.proofs.Writes.{writes_count}
 use Rattle.cmc_rules.proofs.Positions.{calls_short}
 use Rattle.cmc_setup.specs.Setups.{Setup, IsSetup}
@@ -32,11 +32,11 @@ use Rattle.cmc_held.specs.declared.role_states.RoleState.{RoleState}
 use Rattle.cmc_moves.specs.declared.moves.Stepped.TheVariants.{Done}
 use Rattle.cmc_moves.specs.Answers.{AnswersScript, entries_of, next_effect}
 use Rattle.cmc_held.specs.Dues.{shown_positions}
-use Rattle.cmc_rules.specs.Viewing.{Caches}
+use Rattle.cmc_rules.specs.Views.{Caches}
 use Rattle.cmc_caches.specs.Told.{caches_at}
 use Rattle.cmc_world.specs.Changes.{each_at, stopping, starting, scripted_standing}
 use Rattle.cmc_world.specs.Kept.{setting_of, Holdings, IsHoldingsOf, IsKept}
-use Rattle.cmc_world.specs.Noting.{logged}
+use Rattle.cmc_world.specs.Notes.{logged}
 use Rattle.cmc_world.specs.Scripted.{effect_in, role_state_after}
 use Rattle.cmc_world.proofs.Counts.{incarnation_short, logged_called}
 use Rattle.cmc_world.proofs.Events.{held_scripted, kept_users, kept_ticked, kept_stopped, kept_started}

@@ -18,9 +18,9 @@ use Rattle.cmc_model.specs.declared.write.Write.{Write}
 use Rattle.cmc_model.specs.Histories.{Setting, runs}
 use Rattle.cmc_model.specs.Writes.{writes}
 use Rattle.cmc_rules.specs.Passes.{open_pass}
-use Rattle.cmc_rules.specs.Scripting.{scripted, step_at}
-use Rattle.cmc_rules.specs.Following.{call_or, effect_of, IsReady}
-use Rattle.cmc_rules.specs.Resting.{RestsOn, IsAtRest, IsUpToDate, RestsIn}
+use Rattle.cmc_rules.specs.Scripts.{scripted, step_at}
+use Rattle.cmc_rules.specs.UserSteps.{call_or, effect_of, IsReady}
+use Rattle.cmc_rules.specs.Rest.{RestsOn, IsAtRest, IsUpToDate, RestsIn}
 use Rattle.cmc_moves.specs.declared.moves.Stepped.{Stepped}
 use Rattle.cmc_moves.specs.Answers.{AnswersScript, entries_of, next_effect}
 use Rattle.cmc_world.specs.Kept.{Holdings, IsKept}

@@ -13,12 +13,12 @@ use Rattle.cmc_model.specs.Replies.{State}
 use Rattle.cmc_model.specs.Histories.{Setting, moment, state, runs, incarnation}
 use Rattle.cmc_model.specs.Writes.{writes}
 use Rattle.cmc_rules.specs.Positions.{position, positions}
-use Rattle.cmc_rules.specs.Viewing.{Caches}
+use Rattle.cmc_rules.specs.Views.{Caches}
 use Rattle.cmc_rules.specs.Passes.{open_pass}
 use Rattle.cmc_rules.specs.Origins.{origins}
 use Rattle.cmc_rules.specs.Memory.{past}
-use Rattle.cmc_rules.specs.Scripting.{scripted, held}
-use Rattle.cmc_rules.specs.Following.{owed, written}
+use Rattle.cmc_rules.specs.Scripts.{scripted, held}
+use Rattle.cmc_rules.specs.UserSteps.{owed, written}
 use Rattle.cmc_rules.specs.Runs.{IsPartOfRun}
 use Rattle.cmc_rules.specs.Desks.{asked}
 use Rattle.cmc_setup.specs.Setups.{Setup}

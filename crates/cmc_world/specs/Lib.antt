@@ -1,8 +1,8 @@
 pub mod Rest
-pub mod Going
+pub mod Advances
 pub mod Kept
 pub mod Changes
-pub mod Noting
+pub mod Notes
 pub mod Prepared
 pub mod Scripted
-pub mod Leading
+pub mod Leads

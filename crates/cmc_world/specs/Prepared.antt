@@ -5,7 +5,7 @@ use Rattle.cmc_objects.specs.declared.role.Role.{Role}
 use Rattle.cmc_objects.specs.declared.entry.Entry.{Entry}
 use Rattle.cmc_model.specs.Histories.{Setting, moment, incarnation}
 use Rattle.cmc_rules.specs.Positions.{positions}
-use Rattle.cmc_rules.specs.Viewing.{views}
+use Rattle.cmc_rules.specs.Views.{views}
 use Rattle.cmc_rules.specs.Origins.{begun}
 use Rattle.cmc_rules.specs.Passes.{new_pass}
 use Rattle.cmc_world.specs.declared.begin.Prepared.{Prepared}

@@ -5,7 +5,7 @@ use Rattle.cmc_meta.specs.declared.key.Key.{Key}
 use Rattle.cmc_meta.specs.Keys.{key_cmp}
 use Rattle.cmc_objects.specs.declared.entry.Entry.{Entry}
 use Rattle.cmc_model.specs.Histories.{Setting}
-use Rattle.cmc_rules.specs.Resting.{RestsOn}
+use Rattle.cmc_rules.specs.Rest.{RestsOn}
 use Rattle.cmc_meta.specs.declared.key.Kind.{Kind}
 use Rattle.cmc_meta.specs.declared.key.Kind.TheVariants.{Certificate, CertificateRequest, Secret}
 use Rattle.cmc_objects.specs.declared.role.Role.{Role}

@@ -4,7 +4,7 @@ use Rattle.cmc_objects.specs.declared.role.Role.{Role}
 use Rattle.cmc_objects.specs.declared.entry.Step.{Step}
 use Rattle.cmc_rules.specs.declared.effect.Effect.{Effect}
 use Rattle.cmc_model.specs.Objects.{Objects}
-use Rattle.cmc_rules.specs.Following.{effect_on}
+use Rattle.cmc_rules.specs.UserSteps.{effect_on}
 use Rattle.cmc_held.specs.declared.role_states.RoleState.{RoleState}
 use Rattle.cmc_world.specs.Changes.{scripted_standing}
 

@@ -1,6 +1,6 @@
 //! Passes go on: they ask, make their calls, and end.
 ghost use Rattle.std.specs.Prelude.{◌≡◌, ◌+◌, ◌<◌, ◌∷◌, ℕ, IfOk, OnOk, OnErr, None, Some, length};
-ghost use Rattle.cmc_pass.specs.Giving.{order_of, value_of};
+ghost use Rattle.cmc_pass.specs.GivenValues.{order_of, value_of};
 ghost use Rattle.cmc_pass.specs.Values.{IsValue};
 ghost use Rattle.cmc_rules.specs.Acts.{act, call_after};
 ghost use Rattle.cmc_rules.specs.Causes.{MayCall, MayAsk, MayEnd};
@@ -9,10 +9,10 @@ ghost use Rattle.cmc_rules.specs.Runs.{IsRun};
 ghost use Rattle.cmc_rules.specs.Desks.{desk as desk_at};
 ghost use Rattle.cmc_model.specs.Replies as replies;
 ghost use Rattle.cmc_rules.specs.Passes as spec;
-ghost use Rattle.cmc_moves.specs.Acting.{IsDoingBy, IsDoing, MayGoOn, IsGoingOn, IsJudged};
-ghost use Rattle.cmc_world.specs.Going.{IsCalling, IsClosing, MadeCall, AddsDoneEntry};
+ghost use Rattle.cmc_moves.specs.PassActions.{IsDoingBy, IsDoing, MayGoOn, IsGoingOn, IsJudged};
+ghost use Rattle.cmc_world.specs.Advances.{IsCalling, IsClosing, MadeCall, AddsDoneEntry};
 ghost use Rattle.cmc_moves.specs.Answers.{AnswersGive, AnswersGiven, AnswersNext, Leaves, is_done, kept_of, next_answer, outdated, value_entry};
-ghost use Rattle.cmc_moves.specs.Acting.{asked_in};
+ghost use Rattle.cmc_moves.specs.PassActions.{asked_in};
 ghost use Rattle.cmc_world.specs.Kept.{on};
 ghost use Rattle.cmc_moves.specs.declared.moves.Move.TheVariants as moves;
 ghost use Rattle.cmc_moves.specs.declared.moves.Stepped.TheVariants as answers;

@@ -2,8 +2,8 @@
 //! handed in. So what takes long holds up nothing else.
 ghost use Rattle.std.specs.Prelude.{◌≡◌, ℕ, IfOk, OnErr, None, Some, option_map, true};
 ghost use Rattle.cmc_rules.specs.Passes.{open_pass};
-ghost use Rattle.cmc_safety.specs.Acting.{MayAct};
-ghost use Rattle.cmc_moves.specs.Acting.{IsGoingOn, IsTaken, IsTaking};
+ghost use Rattle.cmc_safety.specs.MayAct.{MayAct};
+ghost use Rattle.cmc_moves.specs.PassActions.{IsGoingOn, IsTaken, IsTaking};
 ghost use Rattle.cmc_rules.specs.Runs.{IsRun};
 ghost use Rattle.cmc_moves.specs.Answers.{AnswersDecide, AnswersGoing, Leaves, asked_by};
 ghost use Rattle.cmc_moves.specs.Prospects.{IsFirstAct};

@@ -4,7 +4,7 @@ ghost use Rattle.cmc_model.specs.Histories.{accepted};
 ghost use Rattle.cmc_rules.specs.Legality.{IsOfKind, IsDelivery, IsListing};
 ghost use Rattle.cmc_rules.specs.Positions.{position};
 ghost use Rattle.cmc_rules.specs.Runs.{IsRun};
-ghost use Rattle.cmc_rules.specs.Scripting as spec;
+ghost use Rattle.cmc_rules.specs.Scripts as spec;
 ghost use Rattle.cmc_model.specs.Writes.{write_at};
 ghost use Rattle.cmc_moves.specs.Answers.{AnswersDelivery, Leaves, delivered};
 ghost use Rattle.cmc_world.specs.Kept.{on};

@@ -13,7 +13,7 @@ ghost use Rattle.cmc_held.specs.Open.{pass_at};
 ghost use Rattle.cmc_held.specs.Remembered.{has_past_row, past_at};
 ghost use Rattle.cmc_held.specs.RoleStates.{role_state_of};
 ghost use Rattle.cmc_world.specs.Changes.{writing};
-ghost use Rattle.cmc_world.specs.Noting.{CanCount, own_write_counted, logged, noted};
+ghost use Rattle.cmc_world.specs.Notes.{CanCount, own_write_counted, logged, noted};
 
 use cmc_held::{Log, Passes, RoleMemories, RoleState, RoleStates, with_written, written_of};
 use cmc_match::is_temporary;

@@ -2,7 +2,7 @@
 ghost use Rattle.std.specs.Option.{option_copied};
 ghost use Rattle.std.specs.Prelude.{◌≡◌, ◌↔◌, ℕ, None, IsTrue, IfOk};
 ghost use Rattle.cmc_objects.specs.declared.role.Role.{Role as RoleValue};
-ghost use Rattle.cmc_rules.specs.Following.{owed};
+ghost use Rattle.cmc_rules.specs.UserSteps.{owed};
 ghost use Rattle.cmc_model.specs.Histories as spec;
 ghost use Rattle.cmc_rules.specs.Passes.{open_pass};
 ghost use Rattle.cmc_held.specs.OneRun.{IsOfOneRun};
@@ -10,7 +10,7 @@ ghost use Rattle.cmc_rules.specs.Memory.{past};
 ghost use Rattle.cmc_rules.specs.Origins.{begun};
 ghost use Rattle.cmc_rules.specs.Sameness.{IsDue};
 ghost use Rattle.cmc_rules.specs.Positions.{positions};
-ghost use Rattle.cmc_rules.specs.Viewing.{views};
+ghost use Rattle.cmc_rules.specs.Views.{views};
 ghost use Rattle.cmc_model.specs.Writes.{writes};
 ghost use Rattle.cmc_caches.specs.Told.{caches_at, caches_of};
 ghost use Rattle.cmc_held.specs.Open.{pass_at};

@@ -2,17 +2,17 @@
 ghost use Rattle.std.specs.Option.{option_copied};
 ghost use Rattle.std.specs.Prelude.{◌≡◌, ◌↔◌, ◌⊎◌, ◌+◌, ◌≤◌, ◌||◌, ℕ, ℤ, Some, None, IsTrue, IfOk, All, length, if◌then◌else◌};
 ghost use Rattle.cmc_model.specs.declared.write.Write.{Write as WriteValue};
-ghost use Rattle.cmc_rules.specs.Following as following;
+ghost use Rattle.cmc_rules.specs.UserSteps as following;
 ghost use Rattle.cmc_rules.specs.UserWrites as writes_of;
 ghost use Rattle.cmc_model.specs.Histories.{moment, runs};
 ghost use Rattle.cmc_rules.specs.Passes.{open_pass};
 ghost use Rattle.cmc_rules.specs.Sameness.{IsDue};
-ghost use Rattle.cmc_rules.specs.Resting as spec;
+ghost use Rattle.cmc_rules.specs.Rest as spec;
 ghost use Rattle.cmc_rules.specs.Runs.{IsFinished};
-ghost use Rattle.cmc_rules.specs.Scripting as scripting;
+ghost use Rattle.cmc_rules.specs.Scripts as scripting;
 ghost use Rattle.cmc_rules.specs.Desks.{desk as desk_at};
-ghost use Rattle.cmc_safety.specs.Acting.{MayAct};
-ghost use Rattle.cmc_rules.specs.Viewing.{views};
+ghost use Rattle.cmc_safety.specs.MayAct.{MayAct};
+ghost use Rattle.cmc_rules.specs.Views.{views};
 ghost use Rattle.cmc_model.specs.Writes.{writes};
 ghost use Rattle.cmc_held.specs.OneRun.{IsOfOneRun};
 ghost use Rattle.cmc_held.specs.Remembered.{past_or_new};
@@ -21,7 +21,7 @@ ghost use Rattle.cmc_moves.specs.Answers.{AnswersScript, entries_of};
 ghost use Rattle.cmc_moves.specs.Prospects.{IsProspect};
 ghost use Rattle.cmc_world.specs.Kept.{on};
 ghost use Rattle.cmc_world.specs.Rest.{EachKind, RestsOnAll};
-ghost use Rattle.cmc_rules.specs.Resting.{IsUpToDate, RestsIn};
+ghost use Rattle.cmc_rules.specs.Rest.{IsUpToDate, RestsIn};
 
 use crate::world::{World, has_room};
 use cmc_held::{RoleState, is_held, is_same, own_above, told_of, written_of};
@@ -75,7 +75,7 @@ fn is_certificate(object: Option<&Object>) -> bool
 }
 
 /// How many entries the step makes: its own, and one for what it brings about on what the store has.
-#[tactic(auto, unfolding(cmc_rules::specs::Following::call_of), using(crate::proofs::Waiting::entries_mapped))]
+#[tactic(auto, unfolding(cmc_rules::specs::UserSteps::call_of), using(crate::proofs::Waiting::entries_mapped))]
 fn entries_needed(store: &Store, step: &Step) -> u64
     ensures { (accepted : ℕ) → (moment : ℤ) → result ≡ entries_of (following.effect_on store.now.state.objects accepted moment step.now) }
 {

@@ -7,21 +7,21 @@ ghost use Rattle.cmc_objects.specs.declared.role.Role.{Role as RoleValue};
 ghost use Rattle.cmc_objects.specs.Objects.{key_of};
 ghost use Rattle.cmc_objects.specs.Requests.{is_run_time};
 ghost use Rattle.cmc_rules.specs.declared.effect.Effect.TheVariants as effects;
-ghost use Rattle.cmc_rules.specs.Following.{apply_call, call_of};
+ghost use Rattle.cmc_rules.specs.UserSteps.{apply_call, call_of};
 ghost use Rattle.cmc_model.specs.Histories.{role_eq};
 ghost use Rattle.cmc_model.specs.Objects.{object_at};
-ghost use Rattle.cmc_rules.specs.Scripting.{scripted};
+ghost use Rattle.cmc_rules.specs.Scripts.{scripted};
 ghost use Rattle.cmc_caches.specs.Told.{caches_at};
 ghost use Rattle.cmc_held.specs.Dues.{shown_positions};
 ghost use Rattle.cmc_held.specs.RoleStates.{role_state_of};
 ghost use Rattle.cmc_setup.specs.Forms.{is_step_form};
 ghost use Rattle.cmc_setup.specs.Setups.{IsSetup, IsTickForm, step_seconds};
-ghost use Rattle.cmc_world.specs.Going.{MadeCall};
+ghost use Rattle.cmc_world.specs.Advances.{MadeCall};
 ghost use Rattle.cmc_moves.specs.Answers as spec;
 ghost use Rattle.cmc_world.specs.Changes.{each_at, keeping, scripted_standing, starting, stopping};
 ghost use Rattle.cmc_world.specs.Kept.{on};
 ghost use Rattle.cmc_world.specs.Scripted.{effect_in, role_state_after};
-ghost use Rattle.cmc_rules.specs.Following.{effect_besides, effect_on};
+ghost use Rattle.cmc_rules.specs.UserSteps.{effect_besides, effect_on};
 ghost use Rattle.cmc_moves.specs.declared.moves.Move.TheVariants as moves;
 ghost use Rattle.cmc_moves.specs.declared.moves.Stepped.TheVariants as answers;
 
@@ -60,7 +60,7 @@ fn call_of_apply(store: &Store, object: &Object, version: Option<u64>) -> Result
 }
 
 /// The user call that the step makes at this moment on what the store has; none where it makes none.
-#[tactic(auto, unfolding(cmc_rules::specs::Following::call_of))]
+#[tactic(auto, unfolding(cmc_rules::specs::UserSteps::call_of))]
 fn call_for(
     store: &Store,
     alloc: Global,

@@ -4,7 +4,7 @@ ghost use Rattle.std.specs.Prelude.{◌≡◌, ◌↔◌, IsTrue, IfOk};
 ghost use Rattle.cmc_held.specs.OneRun.{IsOfOneRun};
 ghost use Rattle.cmc_held.specs.Remembered.{past_or_new};
 ghost use Rattle.cmc_rules.specs.Memory.{past};
-ghost use Rattle.cmc_rules.specs.Viewing.{views};
+ghost use Rattle.cmc_rules.specs.Views.{views};
 ghost use Rattle.cmc_world.specs.Kept.{on};
 ghost use Rattle.cmc_moves.specs.Quiet as spec;
 

@@ -8,7 +8,7 @@ use Rattle.serde_json.specs.Data.{Data, array, object, Members}
 use Rattle.serde_json.specs.View.{items_of}
 use Rattle.serde_json.specs.Written.{items_outline, members_outline, compact_text}
 use Rattle.serde_json.proofs.Texts.{print-outline}
-use Rattle.cmc_writer.specs.Adding.{tokens_of, with_value, with_values, Row, with_row, with_rows}
+use Rattle.cmc_writer.specs.Additions.{tokens_of, with_value, with_values, Row, with_row, with_rows}
 use Rattle.cmc_writer.specs.Rows.{built_row, built}
 
 member_ends : (ts : List Token) (name : List ℕ) (x : Option Data) (ms : Members)

@@ -3,7 +3,7 @@ ghost use Rattle.std.specs.Prelude.{◌≡◌, [], ◌∷◌, ◌++◌, Some, co
 ghost use Rattle.json.specs.Token.{begin_object, end_object, begin_array, end_array, key};
 ghost use Rattle.json.specs.Print.{print};
 ghost use Rattle.serde_json.specs.Data.{string, number, unsigned, boolean};
-ghost use Rattle.cmc_writer.specs.Adding.{with_value, with_row, IsBegun};
+ghost use Rattle.cmc_writer.specs.Additions.{with_value, with_row, IsBegun};
 
 use json::Writer;
 use std::alloc::{AllocError, Global};
@@ -101,7 +101,7 @@ impl Printer {
     }
 
     /// A text.
-    #[tactic(auto, unfolding(crate::specs::Adding::with_value))]
+    #[tactic(auto, unfolding(crate::specs::Additions::with_value))]
     pub fn text(&mut self, text: &str) -> Result<(), AllocError>
         ensures written { OnOk result (self.new ≡ with_value self.old (string text.now)) }
         ensures same { OnErr result (self.new ≡ self.old) }
@@ -110,7 +110,7 @@ impl Printer {
     }
 
     /// A number.
-    #[tactic(auto, unfolding(crate::specs::Adding::with_value))]
+    #[tactic(auto, unfolding(crate::specs::Additions::with_value))]
     pub fn count(&mut self, count: u64) -> Result<(), AllocError>
         ensures written { OnOk result (self.new ≡ with_value self.old (number (unsigned count))) }
         ensures same { OnErr result (self.new ≡ self.old) }
@@ -119,7 +119,7 @@ impl Printer {
     }
 
     /// True or false.
-    #[tactic(auto, unfolding(crate::specs::Adding::with_value))]
+    #[tactic(auto, unfolding(crate::specs::Additions::with_value))]
     pub fn flag(&mut self, flag: bool) -> Result<(), AllocError>
         ensures written { OnOk result (self.new ≡ with_value self.old (boolean flag)) }
         ensures same { OnErr result (self.new ≡ self.old) }
@@ -128,7 +128,7 @@ impl Printer {
     }
 
     /// A text of two parts with a slash between them.
-    #[tactic(auto, unfolding(crate::specs::Adding::with_value))]
+    #[tactic(auto, unfolding(crate::specs::Additions::with_value))]
     pub fn pair(&mut self, first: &str, second: &str) -> Result<(), AllocError>
         ensures written { OnOk result (self.new ≡ with_value self.old (string (first.now ++ (codes "/" ++ second.now)))) }
         ensures same { OnErr result (self.new ≡ self.old) }
@@ -141,7 +141,7 @@ impl Printer {
     }
 
     /// A text of three parts with slashes between them.
-    #[tactic(auto, unfolding(crate::specs::Adding::with_value))]
+    #[tactic(auto, unfolding(crate::specs::Additions::with_value))]
     pub fn triple(&mut self, first: &str, second: &str, third: &str) -> Result<(), AllocError>
         ensures written { OnOk result (self.new ≡ with_value self.old (string (first.now ++ (codes "/" ++ (second.now ++ (codes "/" ++ third.now)))))) }
         ensures same { OnErr result (self.new ≡ self.old) }
@@ -156,7 +156,7 @@ impl Printer {
     }
 
     /// A text with an end after it.
-    #[tactic(auto, unfolding(crate::specs::Adding::with_value))]
+    #[tactic(auto, unfolding(crate::specs::Additions::with_value))]
     pub fn ended(&mut self, text: &str, end: &str) -> Result<(), AllocError>
         ensures written { OnOk result (self.new ≡ with_value self.old (string (text.now ++ end.now))) }
         ensures same { OnErr result (self.new ≡ self.old) }
@@ -168,7 +168,7 @@ impl Printer {
     }
 
     /// A member that is a text.
-    #[tactic(auto, unfolding(crate::specs::Adding::with_row))]
+    #[tactic(auto, unfolding(crate::specs::Additions::with_row))]
     pub fn text_row(&mut self, name: &str, text: &str) -> Result<(), AllocError>
         ensures written { OnOk result (self.new ≡ with_row self.old name.now (Some (string text.now))) }
         ensures begun { OnErr result (IsBegun self.old self.new name.now) }
@@ -178,7 +178,7 @@ impl Printer {
     }
 
     /// A member that is a number.
-    #[tactic(auto, unfolding(crate::specs::Adding::with_row))]
+    #[tactic(auto, unfolding(crate::specs::Additions::with_row))]
     pub fn count_row(&mut self, name: &str, count: u64) -> Result<(), AllocError>
         ensures written { OnOk result (self.new ≡ with_row self.old name.now (Some (number (unsigned count)))) }
         ensures begun { OnErr result (IsBegun self.old self.new name.now) }
@@ -188,7 +188,7 @@ impl Printer {
     }
 
     /// A member that is true or false.
-    #[tactic(auto, unfolding(crate::specs::Adding::with_row))]
+    #[tactic(auto, unfolding(crate::specs::Additions::with_row))]
     pub fn flag_row(&mut self, name: &str, flag: bool) -> Result<(), AllocError>
         ensures written { OnOk result (self.new ≡ with_row self.old name.now (Some (boolean flag))) }
         ensures begun { OnErr result (IsBegun self.old self.new name.now) }

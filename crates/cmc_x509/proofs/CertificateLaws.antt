@@ -8,11 +8,11 @@ use Rattle.cmc_der.specs.declared.fields.CertFields.{CertFields}
 use Rattle.cmc_der.specs.declared.fields.CsrFields.{CsrFields}
 use Rattle.cmc_der.specs.Values.{IsDerValue}
 use Rattle.cmc_der.specs.Keys.{CertificateFields, RequestFields, cert_shown, csr_shown}
-use Rattle.cmc_time.specs.Reading.{asn1_seconds}
+use Rattle.cmc_time.specs.TimeTexts.{asn1_seconds}
 use Rattle.cmc_time.proofs.Asn1Laws.{asn1_found, asn1_again}
 use Rattle.cmc_x509.specs.declared.taking.NotForm.{NotForm}
 use Rattle.cmc_x509.specs.declared.taking.TheConstants.{MAX_INPUT}
-use Rattle.cmc_x509.specs.Taking.{Gives, BeginsWithOptional, ◌>>=◌, value_at, take_at, end_at, only_at, optional_value_at}
+use Rattle.cmc_x509.specs.Options.{Gives, BeginsWithOptional, ◌>>=◌, value_at, take_at, end_at, only_at, optional_value_at}
 use Rattle.cmc_x509.specs.Lists.{IsValueList, first_at}
 use Rattle.cmc_x509.specs.PublicKeys.{AlgorithmIdentifier, BeginsWithAlgorithm, BeginsWithInteger}
 use Rattle.cmc_x509.specs.Names.{BeginsWithName, IsExtension, IsRequestAttribute}

@@ -11,7 +11,7 @@ use Rattle.cmc_der.specs.Values.{IsDerValue}
 use Rattle.cmc_der.specs.Keys.{PublicKey, RsaKey, EcKey, OtherKey, same_kind, key_shown}
 use Rattle.cmc_x509.specs.declared.oids.TheConstants.{RSA_ENCRYPTION, EC_PUBLIC_KEY}
 use Rattle.cmc_x509.specs.declared.taking.TheConstants.{MAX_INPUT}
-use Rattle.cmc_x509.specs.Taking.{Gives, Value, BeginsWithOptional, ◌>>=◌, take_at, end_at, only_at, optional_value_at}
+use Rattle.cmc_x509.specs.Options.{Gives, Value, BeginsWithOptional, ◌>>=◌, take_at, end_at, only_at, optional_value_at}
 use Rattle.cmc_x509.specs.Lists.{first_at}
 use Rattle.cmc_x509.specs.Names.{IsRequestAttribute}
 use Rattle.cmc_x509.specs.PublicKeys.{AlgorithmIdentifier, BeginsWithInteger, NamesCurve}

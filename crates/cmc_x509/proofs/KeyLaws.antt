@@ -8,7 +8,7 @@ use Rattle.cmc_der.specs.Values.{BeginsWith}
 use Rattle.cmc_der.specs.Integers.{is_integer, signed}
 use Rattle.cmc_der.specs.Keys.{PublicKey, RsaKey, EcKey, OtherKey}
 use Rattle.cmc_x509.specs.declared.oids.TheConstants.{RSA_ENCRYPTION, EC_PUBLIC_KEY, SECP256R1, SECP384R1, SECP521R1}
-use Rattle.cmc_x509.specs.Taking.{Value, Taken, take_at, whole_at, end_at, only_at, at_most_one_at}
+use Rattle.cmc_x509.specs.Options.{Value, Taken, take_at, whole_at, end_at, only_at, at_most_one_at}
 use Rattle.cmc_x509.specs.PublicKeys.{AlgorithmIdentifier, BeginsWithAlgorithm, BeginsWithInteger, IsMagnitude, BeginsWithPositive, IsRsaPublicKey, IsNull, NamesCurve, IsCurve, width, IsPoint, ArePublicKeyBits, IsSpki, BeginsWithSpki}
 use Rattle.cmc_x509.specs.ReadKeys.{algorithm_at, integer_at, high_first, magnitude_of, positive_at, version_at, rsa_public_at, curve_named, curve_of, is_point, is_null, point_at, bits_of, public_key_at, spki_of, spki_at}
 use Rattle.cmc_x509.proofs.TakingLaws.{some, some_is, bind_some, guard_some, take_found, take_again, end_found, end_again, only_found, only_again, at_most_one_found, at_most_one_again, whole_found, whole_again, bytes_same, bytes_differ, same_bytes, other_bytes}

@@ -1,7 +1,7 @@
 -- Reading values one after the other, and the first that gives something.
 use Rattle.std.proofs.Common.{◌≡◌, ℕ, zero, suc, ◌<◌, ◌≤◌, List, [], ◌∷◌, length, Option, Some, None, refl, sym, ap, subst, ◌∙◌, arith}
-use Rattle.cmc_der.specs.Reading.{Found}
-use Rattle.cmc_x509.specs.Taking.{Value, ◌>>=◌, value_at}
+use Rattle.cmc_der.specs.Elements.{Found}
+use Rattle.cmc_x509.specs.Options.{Value, ◌>>=◌, value_at}
 use Rattle.cmc_x509.specs.Lists.{IsValues, IsValueList, or_first, FirstOf, IsListOf, values_from, values_at, Reader, first_read_of, first_at, after_found, any_value}
 use Rattle.cmc_x509.proofs.TakingLaws.{some, some_is, bind_some, value_found, value_again, rest_shorter}
 

@@ -4,7 +4,7 @@ use Rattle.std.proofs.lemmas.Bool.{eqb-true, eq-eqb, cases_Bool}
 use Rattle.std.specs.Str.{bytes_eq}
 use Rattle.cmc_der.specs.Values.{IsDerValue, BeginsWith}
 use Rattle.cmc_x509.specs.declared.oids.TheConstants.{SUBJECT_ALT_NAME, EXTENSION_REQUEST}
-use Rattle.cmc_x509.specs.Taking.{Value, Maybe, value_at, take_at, end_at, only_at, optional_value_at}
+use Rattle.cmc_x509.specs.Options.{Value, Maybe, value_at, take_at, end_at, only_at, optional_value_at}
 use Rattle.cmc_x509.specs.Lists.{IsValueList, or_first, FirstOf, IsListOf, first_at, any_value}
 use Rattle.cmc_x509.specs.Names.{IsAttribute, IsRdn, BeginsWithName, IsTrueOrAbsent, IsExtensionValue, IsExtension, IsExtensions, IsAttributeValue, IsRequestAttribute}
 use Rattle.cmc_x509.specs.ReadNames.{inside, attribute_of, rdn_of, distinguished_name_at, true_or_absent, general_names_at, extension_value_at, extension_of, extensions_of, request_attribute_of}

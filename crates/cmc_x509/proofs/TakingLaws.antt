@@ -6,9 +6,9 @@ use Rattle.std.specs.Str.{bytes_eq}
 use Rattle.std.proofs.lemmas.List.{append-nil, length-append, take_at as take-front}
 use Rattle.cmc_der.specs.declared.reading.DerFault.{DerFault}
 use Rattle.cmc_der.specs.Values.{IsDerValue, BeginsWith}
-use Rattle.cmc_der.specs.Reading.{Found, read_at}
+use Rattle.cmc_der.specs.Elements.{Found, read_at}
 use Rattle.cmc_der.proofs.Laws.{read_spelled, read_again}
-use Rattle.cmc_x509.specs.Taking.{Value, IsAtMostOne, BeginsWithOptional, ◌>>=◌, Taken, Maybe, value_if_read, value_at, take_at, whole_at, end_at, only_at, at_most_one_at, optional_value_at}
+use Rattle.cmc_x509.specs.Options.{Value, IsAtMostOne, BeginsWithOptional, ◌>>=◌, Taken, Maybe, value_if_read, value_at, take_at, whole_at, end_at, only_at, at_most_one_at, optional_value_at}
 
 abbrev pub some : {A : Type 0} → A → Option A
 some x = Some x

@@ -6,7 +6,7 @@ use Rattle.cmc_der.specs.Values.{IsDerValue, BeginsWith}
 use Rattle.cmc_der.specs.Keys.{PublicKey, RsaKey, EcKey, OtherKey}
 use Rattle.cmc_x509.specs.declared.oids.TheConstants.{RSA_ENCRYPTION, EC_PUBLIC_KEY}
 use Rattle.cmc_x509.specs.declared.taking.TheConstants.{MAX_INPUT}
-use Rattle.cmc_x509.specs.Taking.{Value, BeginsWithOptional}
+use Rattle.cmc_x509.specs.Options.{Value, BeginsWithOptional}
 use Rattle.cmc_x509.specs.Lists.{IsListOf}
 use Rattle.cmc_x509.specs.PublicKeys.{AlgorithmIdentifier, BeginsWithAlgorithm, BeginsWithInteger, BeginsWithPositive, IsNull, NamesCurve, IsCurve, IsPoint}
 use Rattle.cmc_x509.specs.Names.{IsRequestAttribute}

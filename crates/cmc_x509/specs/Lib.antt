@@ -1,4 +1,4 @@
-pub mod Taking
+pub mod Options
 pub mod Lists
 pub mod PublicKeys
 pub mod Names

@@ -1,7 +1,7 @@
 -- Values one after the other (SEQUENCE OF and SET OF), and the first of them that gives something.
 use Rattle.std.specs.Prelude.{◌≡◌, ℕ, zero, suc, List, [], ◌∷◌, length, Option, Some, None}
 use Rattle.cmc_der.specs.Values.{BeginsWith}
-use Rattle.cmc_x509.specs.Taking.{Value, ◌>>=◌, value_at}
+use Rattle.cmc_x509.specs.Options.{Value, ◌>>=◌, value_at}
 
 -- the octets are these values, one after the other
 abbrev pub IsValues : List ℕ → List Value → Type 0

@@ -4,7 +4,7 @@ use Rattle.std.specs.Prelude.{◌≡◌, ◌≢◌, ℕ, ◌==◌, ◌||◌, ◌
 use Rattle.std.specs.Str.{bytes_eq}
 use Rattle.cmc_der.specs.Values.{IsDerValue, BeginsWith}
 use Rattle.cmc_x509.specs.declared.oids.TheConstants.{COMMON_NAME, SUBJECT_ALT_NAME, EXTENSION_REQUEST}
-use Rattle.cmc_x509.specs.Taking.{Value, BeginsWithOptional}
+use Rattle.cmc_x509.specs.Options.{Value, BeginsWithOptional}
 use Rattle.cmc_x509.specs.Lists.{IsValueList, IsListOf}
 
 -- UTF8String, PrintableString, TeletexString or IA5String

@@ -8,7 +8,7 @@ use Rattle.cmc_der.specs.Integers.{is_integer, signed}
 use Rattle.cmc_der.specs.Keys.{PublicKey, RsaKey, EcKey, OtherKey}
 use Rattle.cmc_x509.specs.declared.keys.Algorithm.{Algorithm}
 use Rattle.cmc_x509.specs.declared.oids.TheConstants.{RSA_ENCRYPTION, EC_PUBLIC_KEY, SECP256R1, SECP384R1, SECP521R1}
-use Rattle.cmc_x509.specs.Taking.{Value, value_shown, IsAtMostOne}
+use Rattle.cmc_x509.specs.Options.{Value, value_shown, IsAtMostOne}
 
 -- an AlgorithmIdentifier (RFC 5280, 4.1.1.2): what it names, and its parameter
 pub record AlgorithmIdentifier : Type 0 where

@@ -3,7 +3,7 @@ use Rattle.std.specs.Prelude.{ℕ, ℤ, int_le, nat_le, cond, List, [], length, 
 use Rattle.cmc_der.specs.Keys.{CertificateFields, RequestFields}
 use Rattle.cmc_x509.specs.declared.certificates.Front.{Front}
 use Rattle.cmc_x509.specs.declared.taking.TheConstants.{MAX_INPUT}
-use Rattle.cmc_x509.specs.Taking.{◌>>=◌, take_at, end_at, only_at, optional_value_at}
+use Rattle.cmc_x509.specs.Options.{◌>>=◌, take_at, end_at, only_at, optional_value_at}
 use Rattle.cmc_x509.specs.Lists.{first_at}
 use Rattle.cmc_x509.specs.Certificates.{or_none}
 use Rattle.cmc_x509.specs.ReadKeys.{algorithm_at, integer_at, version_at, bits_of, spki_at}

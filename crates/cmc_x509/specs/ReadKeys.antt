@@ -7,7 +7,7 @@ use Rattle.cmc_der.specs.Integers.{is_integer}
 use Rattle.cmc_der.specs.Keys.{PublicKey, RsaKey, EcKey, OtherKey, same_kind}
 use Rattle.cmc_x509.specs.declared.oids.TheConstants.{RSA_ENCRYPTION, EC_PUBLIC_KEY, SECP256R1, SECP384R1, SECP521R1}
 use Rattle.cmc_x509.specs.declared.taking.TheConstants.{MAX_INPUT}
-use Rattle.cmc_x509.specs.Taking.{Value, ◌>>=◌, Taken, take_at, whole_at, end_at, only_at, at_most_one_at, optional_value_at}
+use Rattle.cmc_x509.specs.Options.{Value, ◌>>=◌, Taken, take_at, whole_at, end_at, only_at, at_most_one_at, optional_value_at}
 use Rattle.cmc_x509.specs.Lists.{first_at}
 use Rattle.cmc_x509.specs.PublicKeys.{AlgorithmIdentifier, width}
 use Rattle.cmc_x509.specs.ReadNames.{request_attribute_of}

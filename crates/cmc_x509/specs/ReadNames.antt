@@ -2,7 +2,7 @@
 use Rattle.std.specs.Prelude.{ℕ, ◌==◌, cond, List, [], ◌∷◌, Option, Some, None}
 use Rattle.std.specs.Str.{bytes_eq}
 use Rattle.cmc_x509.specs.declared.oids.TheConstants.{SUBJECT_ALT_NAME, EXTENSION_REQUEST}
-use Rattle.cmc_x509.specs.Taking.{Value, ◌>>=◌, Maybe, value_at, take_at, end_at, only_at, optional_value_at}
+use Rattle.cmc_x509.specs.Options.{Value, ◌>>=◌, Maybe, value_at, take_at, end_at, only_at, optional_value_at}
 use Rattle.cmc_x509.specs.Lists.{Reader, first_at, any_value}
 use Rattle.cmc_x509.specs.Names.{common_of}
 

@@ -2,8 +2,8 @@
 use Rattle.std.specs.Prelude.{ℕ, ℤ, List, Option, Some}
 use Rattle.cmc_der.specs.Values.{BeginsWith}
 use Rattle.cmc_time.specs.Asn1.{IsAsn1Time}
-use Rattle.cmc_time.specs.Reading.{asn1_seconds}
-use Rattle.cmc_x509.specs.Taking.{◌>>=◌, value_at}
+use Rattle.cmc_time.specs.TimeTexts.{asn1_seconds}
+use Rattle.cmc_x509.specs.Options.{◌>>=◌, value_at}
 
 -- the octets begin with a UTCTime or a GeneralizedTime of this moment
 abbrev pub BeginsWithTime : List ℕ → ℤ → List ℕ → Type 0

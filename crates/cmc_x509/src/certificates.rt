@@ -1,7 +1,7 @@
 //! Certificates and certification requests.
 ghost use Rattle.std.specs.Prelude.{◌≡◌, ◌↔◌, Some, IfOk, IsErr};
 ghost use Rattle.cmc_der.specs.Keys.{CertificateFields, RequestFields, cert_shown, csr_shown, key_shown, text_shown};
-ghost use Rattle.cmc_x509.specs.Taking.{Gives};
+ghost use Rattle.cmc_x509.specs.Options.{Gives};
 ghost use Rattle.cmc_x509.specs.Lists.{IsValueList};
 ghost use Rattle.cmc_x509.specs.Times.{time_at};
 ghost use Rattle.cmc_x509.specs.Certificates.{IsCertificate, IsRequest, or_none};

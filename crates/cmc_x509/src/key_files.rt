@@ -2,7 +2,7 @@
 ghost use Rattle.std.specs.Prelude.{◌≡◌, ◌↔◌, ℕ, List, Option, None, Some, IfOk, IfSome, IsErr, IsNone};
 ghost use Rattle.cmc_der.specs.declared.fields.KeyKind.{KeyKind};
 ghost use Rattle.cmc_der.specs.Keys.{PublicKey, key_shown, text_shown};
-ghost use Rattle.cmc_x509.specs.Taking.{Gives, GivesSome, value_shown};
+ghost use Rattle.cmc_x509.specs.Options.{Gives, GivesSome, value_shown};
 ghost use Rattle.cmc_x509.specs.PublicKeys.{algorithm_shown};
 ghost use Rattle.cmc_x509.specs.KeyFiles.{IsKeyFile};
 ghost use Rattle.cmc_x509.specs.ReadKeys.{three_at, six_at, rsa_private_at, agreed, curve_inside_at, agreed_curve, ec_private_at, attributes_at, around_of, private_key_of_at, private_key_info_at, private_key_at, key_file_at};

@@ -2,7 +2,7 @@
 ghost use Rattle.std.specs.Prelude.{◌≡◌, ◌<◌, ℕ, List};
 ghost use Rattle.cmc_der.specs.Integers.{is_integer};
 ghost use Rattle.cmc_der.specs.Keys.{key_shown};
-ghost use Rattle.cmc_x509.specs.Taking.{Gives, Value, value_shown};
+ghost use Rattle.cmc_x509.specs.Options.{Gives, Value, value_shown};
 ghost use Rattle.cmc_x509.specs.PublicKeys.{algorithm_shown, width};
 ghost use Rattle.cmc_x509.specs.ReadKeys.{algorithm_at, integer_at, high_first, magnitude_of, positive_at, version_at, rsa_public_at, curve_named, curve_of, is_point, is_null, point_at, bits_of, public_key_at, spki_of, spki_at};
 

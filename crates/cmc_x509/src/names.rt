@@ -3,7 +3,7 @@ ghost use Rattle.std.specs.Prelude.{◌≡◌, ◌↔◌, ◌<◌, length, ℕ, 
 ghost use Rattle.std.specs.Str.{bytes_eq};
 ghost use Rattle.cmc_der.specs.Keys.{text_shown};
 ghost use Rattle.cmc_der.specs.Values.{BeginsWith};
-ghost use Rattle.cmc_x509.specs.Taking.{Gives, Value};
+ghost use Rattle.cmc_x509.specs.Options.{Gives, Value};
 ghost use Rattle.cmc_x509.specs.Lists.{or_first, Reader, first_at, any_value, IsValueList};
 ghost use Rattle.cmc_x509.specs.Names.{is_text_tag, common_of};
 ghost use Rattle.cmc_x509.specs.ReadNames.{inside, attribute_of, rdn_of, distinguished_name_at, true_or_absent, general_names_at, extension_value_at, extension_of, extensions_of, request_attribute_of};

@@ -1,8 +1,8 @@
 //! Taking values from the front of the input.
 ghost use Rattle.std.specs.Prelude.{◌≡◌, ◌<◌, ◌-◌, ◌+◌, ◌≤◌, length, IfOk};
 ghost use Rattle.cmc_der.specs.Keys.{text_shown};
-ghost use Rattle.cmc_der.specs.Reading.{tlv_shown};
-ghost use Rattle.cmc_x509.specs.Taking.{Gives, value_shown, value_at, take_at, whole_at, end_at, only_at, at_most_one_at, optional_value_at};
+ghost use Rattle.cmc_der.specs.Elements.{tlv_shown};
+ghost use Rattle.cmc_x509.specs.Options.{Gives, value_shown, value_at, take_at, whole_at, end_at, only_at, at_most_one_at, optional_value_at};
 
 use cmc_der::{Tlv, read_one};
 
@@ -14,7 +14,7 @@ pub const MAX_INPUT: usize = 16_777_216;
 pub struct NotForm;
 
 /// The value at the front, and the rest.
-#[tactic(auto, unfolding(crate::specs::Taking::value_at))]
+#[tactic(auto, unfolding(crate::specs::Options::value_at))]
 pub fn value<'a>(rest: &'a [u8]) -> Result<(Tlv<'a>, &'a [u8]), NotForm>
     ensures gives { Gives tlv_shown result (value_at rest.now) }
     ensures shorter { IfOk result (λ r. length r.1.now < length rest.now) }
@@ -26,7 +26,7 @@ pub fn value<'a>(rest: &'a [u8]) -> Result<(Tlv<'a>, &'a [u8]), NotForm>
 }
 
 /// The body of the value at the front, which has this tag, and the rest.
-#[tactic(auto, unfolding(crate::specs::Taking::take_at))]
+#[tactic(auto, unfolding(crate::specs::Options::take_at))]
 pub fn take<'a>(tag: u8, rest: &'a [u8]) -> Result<(&'a [u8], &'a [u8]), NotForm>
     ensures { Gives (λ p. (p.0.now, p.1.now)) result (take_at tag rest.now) }
 {
@@ -38,7 +38,7 @@ pub fn take<'a>(tag: u8, rest: &'a [u8]) -> Result<(&'a [u8], &'a [u8]), NotForm
 }
 
 /// All octets of the value at the front, and the rest.
-#[tactic(auto, unfolding(crate::specs::Taking::whole_at))]
+#[tactic(auto, unfolding(crate::specs::Options::whole_at))]
 pub fn whole<'a>(input: &'a [u8]) -> Result<(&'a [u8], &'a [u8]), NotForm>
     ensures { Gives (λ p. (p.0.now, p.1.now)) result (whole_at input.now) }
 {
@@ -48,7 +48,7 @@ pub fn whole<'a>(input: &'a [u8]) -> Result<(&'a [u8], &'a [u8]), NotForm>
 }
 
 /// Nothing is there any more.
-#[tactic(auto, unfolding(crate::specs::Taking::end_at))]
+#[tactic(auto, unfolding(crate::specs::Options::end_at))]
 pub fn end(rest: &[u8]) -> Result<(), NotForm>
     ensures { Gives (λ _. 0) result (end_at rest.now) }
 {
@@ -59,7 +59,7 @@ pub fn end(rest: &[u8]) -> Result<(), NotForm>
 }
 
 /// The body of the one value of this tag that the input is.
-#[tactic(auto, unfolding(crate::specs::Taking::only_at))]
+#[tactic(auto, unfolding(crate::specs::Options::only_at))]
 pub fn only<'a>(tag: u8, input: &'a [u8]) -> Result<&'a [u8], NotForm>
     ensures { Gives (λ p. p.now) result (only_at tag input.now) }
 {
@@ -69,7 +69,7 @@ pub fn only<'a>(tag: u8, input: &'a [u8]) -> Result<&'a [u8], NotForm>
 }
 
 /// The one value that the input is, or none where it is empty.
-#[tactic(auto, unfolding(crate::specs::Taking::at_most_one_at))]
+#[tactic(auto, unfolding(crate::specs::Options::at_most_one_at))]
 pub fn at_most_one<'a>(input: &'a [u8]) -> Result<Option<Tlv<'a>>, NotForm>
     ensures { Gives value_shown result (at_most_one_at input.now) }
 {
@@ -84,7 +84,7 @@ pub fn at_most_one<'a>(input: &'a [u8]) -> Result<Option<Tlv<'a>>, NotForm>
 }
 
 /// The body of the value at the front where one of this tag is there, and the rest.
-#[tactic(auto, unfolding(crate::specs::Taking::optional_value_at))]
+#[tactic(auto, unfolding(crate::specs::Options::optional_value_at))]
 pub fn optional<'a>(tag: u8, input: &'a [u8]) -> Result<(Option<&'a [u8]>, &'a [u8]), NotForm>
     ensures { Gives (λ p. (text_shown p.0, p.1.now)) result (optional_value_at tag input.now) }
 {

@@ -1,6 +1,6 @@
 -- The names that are built are read again.
 use Rattle.std.proofs.Common.{inr, ℕ, List, [], ◌∷◌, ◌++◌, Option, Some, None, refl, arith, flat_map}
-use Rattle.cmc_der.specs.Building.{value}
+use Rattle.cmc_der.specs.Builders.{value}
 use Rattle.cmc_x509.specs.Lists.{IsValueList, IsListOf}
 use Rattle.cmc_x509.specs.Names.{IsAttribute, IsRdn, BeginsWithName, IsExtension, IsExtensions, IsRequestAttribute}
 use Rattle.cmc_x509_build.specs.declared.oids.TheConstants.{COMMON_NAME, SUBJECT_ALT_NAME, EXTENSION_REQUEST}

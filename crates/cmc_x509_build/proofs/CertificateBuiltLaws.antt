@@ -1,14 +1,14 @@
 -- The certificate that is built is read with the fields that it was built of.
 use Rattle.std.proofs.Common.{◌≡◌, ◌≢◌, Bool, true, false, cond, nat_lt, ℕ, ◌%◌, List, [], ◌∷◌, ◌++◌, Option, Some, None, ℤ, ◌≤ℤ◌, refl, sym, subst, arith, append_assoc}
 use Rattle.std.specs.Int.{w64, to_be_bytes}
-use Rattle.cmc_der.specs.Building.{value}
+use Rattle.cmc_der.specs.Builders.{value}
 use Rattle.cmc_der.specs.Integers.{is_integer}
 use Rattle.cmc_der.specs.Keys.{PublicKey, CertificateFields, SubjectNames}
 use Rattle.cmc_der.proofs.Shortest.{integer_is}
 use Rattle.cmc_time.specs.Asn1.{IsCertificateTime, asn1_tag, asn1_text}
 use Rattle.cmc_time.specs.Moment.{moment_of}
 use Rattle.cmc_time.proofs.Printed.{asn1_is_text}
-use Rattle.cmc_x509.specs.Taking.{BeginsOtherwise, BeginsWithOptional}
+use Rattle.cmc_x509.specs.Options.{BeginsOtherwise, BeginsWithOptional}
 use Rattle.cmc_x509.specs.Lists.{IsValueList}
 use Rattle.cmc_x509.specs.Times.{BeginsWithTime}
 use Rattle.cmc_x509.specs.Certificates.{IsTbsCertificate, IsCertificate, BeginsWithValidity, AreExtensions}

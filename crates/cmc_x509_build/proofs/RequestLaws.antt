@@ -1,7 +1,7 @@
 -- The request that is built is read with the fields that it was built of.
 use Rattle.std.proofs.Common.{◌≡◌, ℕ, List, [], ◌∷◌, ◌++◌, None, refl, arith}
 use Rattle.cmc_der.specs.Values.{IsDerValue}
-use Rattle.cmc_der.specs.Building.{value}
+use Rattle.cmc_der.specs.Builders.{value}
 use Rattle.cmc_der.specs.Keys.{PublicKey, RequestFields}
 use Rattle.cmc_x509.specs.Lists.{IsValueList}
 use Rattle.cmc_x509.specs.PublicKeys.{BeginsWithAlgorithm}

@@ -5,7 +5,7 @@ use Rattle.std.proofs.lemmas.Option.{none-some, same_Some}
 use Rattle.cmc_der.specs.declared.fields.KeyKind.{KeyKind}
 use Rattle.cmc_der.specs.declared.fields.KeyKind.TheVariants.{Rsa, P256, P384, P521}
 use Rattle.cmc_der.specs.Keys.{PublicKey, RsaKey, EcKey, OtherKey, RequestFields, key_kind_of}
-use Rattle.cmc_x509.specs.Taking.{Value}
+use Rattle.cmc_x509.specs.Options.{Value}
 use Rattle.cmc_x509.specs.Lists.{IsValueList, FirstOf, IsListOf, or_first}
 use Rattle.cmc_x509.specs.Names.{IsExtension, IsExtensions, IsRequestAttribute}
 use Rattle.cmc_x509.specs.PublicKeys.{AlgorithmIdentifier, NamesCurve, ArePublicKeyBits}

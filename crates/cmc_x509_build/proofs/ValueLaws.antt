@@ -1,8 +1,8 @@
 -- Lists of values that are written are lists of values that are read.
 use Rattle.std.proofs.Common.{◌≡◌, ◌≢◌, ℕ, ◌%◌, List, [], ◌∷◌, ◌++◌, Option, Some, None, refl, append_assoc, flat_map}
-use Rattle.cmc_der.specs.Building.{value}
+use Rattle.cmc_der.specs.Builders.{value}
 use Rattle.cmc_der.proofs.SmallValues.{IsSmall, front_small, back_small, value_last}
-use Rattle.cmc_x509.specs.Taking.{Value, BeginsOtherwise}
+use Rattle.cmc_x509.specs.Options.{Value, BeginsOtherwise}
 use Rattle.cmc_x509.specs.Lists.{IsValues, IsValueList, IsListOf, or_first}
 
 -- a value of another tag

@@ -1,7 +1,7 @@
 -- Certificates that are built (RFC 5280).
 use Rattle.std.specs.Prelude.{ℕ, ℤ, List, [], ◌∷◌, ◌++◌, Some}
 use Rattle.std.specs.Int.{w64, to_be_bytes}
-use Rattle.cmc_der.specs.Building.{value}
+use Rattle.cmc_der.specs.Builders.{value}
 use Rattle.cmc_der.specs.Integers.{integer_of}
 use Rattle.cmc_der.specs.Values.{IsDerValue}
 use Rattle.cmc_der.specs.Keys.{PublicKey, CertificateFields, SubjectNames}

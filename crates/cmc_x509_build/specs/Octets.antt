@@ -1,6 +1,6 @@
 -- The octets that requests and certificates are built of.
 use Rattle.std.specs.Prelude.{ℕ, List, [], ◌∷◌, ◌++◌, Option, Some, None}
-use Rattle.cmc_der.specs.Building.{value}
+use Rattle.cmc_der.specs.Builders.{value}
 use Rattle.cmc_der.specs.Integers.{integer_of}
 use Rattle.cmc_der.specs.Keys.{PublicKey, RsaKey, EcKey, OtherKey}
 use Rattle.cmc_der.specs.declared.fields.KeyKind.{KeyKind}

@@ -1,6 +1,6 @@
 -- Certification requests that are built (RFC 2986).
 use Rattle.std.specs.Prelude.{ℕ, List, [], ◌∷◌, ◌++◌, Option, Some, None, flat_map}
-use Rattle.cmc_der.specs.Building.{value}
+use Rattle.cmc_der.specs.Builders.{value}
 use Rattle.cmc_der.specs.Values.{IsDerValue}
 use Rattle.cmc_der.specs.Keys.{RequestFields, SubjectNames}
 use Rattle.cmc_x509.specs.Certificates.{IsRequestInfo}

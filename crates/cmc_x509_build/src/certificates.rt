@@ -1,7 +1,7 @@
 //! Certificates.
 ghost use Rattle.std.specs.Prelude.{◌≡◌, ◌≤◌, ◌++◌, ℕ, ℤ, length, Some, IfOk, OnOk, ◌≤ℤ◌};
 ghost use Rattle.cmc_der.specs.Integers.{integer_of};
-ghost use Rattle.cmc_der.specs.Building.{value};
+ghost use Rattle.cmc_der.specs.Builders.{value};
 ghost use Rattle.cmc_der.specs.Keys.{key_shown, names_shown, csr_shown, CertificateFields};
 ghost use Rattle.cmc_time.specs.Asn1.{IsCertificateTime};
 ghost use Rattle.cmc_x509.specs.Lists.{IsValueList};

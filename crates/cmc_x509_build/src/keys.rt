@@ -3,7 +3,7 @@ ghost use Rattle.std.specs.Prelude.{◌≡◌, ◌≢◌, ◌++◌, ◌∷◌, [
 ghost use Rattle.cmc_der.specs.Keys.{key_shown, OtherKey};
 ghost use Rattle.cmc_x509_build.specs.Octets as spec;
 ghost use Rattle.cmc_x509_build.specs.declared.oids.TheConstants.{RSA_ENCRYPTION, EC_PUBLIC_KEY};
-ghost use Rattle.cmc_der.specs.Building.{value};
+ghost use Rattle.cmc_der.specs.Builders.{value};
 
 use crate::oids;
 use crate::pieces::{push_bits, push_integer, push_value};

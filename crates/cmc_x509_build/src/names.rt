@@ -1,7 +1,7 @@
 //! Names of subjects and issuers, and alternative names.
 ghost use Rattle.std.specs.Prelude.{◌≡◌, ◌≢◌, ◌%◌, ◌++◌, List, ℕ, Option, None, Some, IfOk, OnOk, flat_map};
 ghost use Rattle.cmc_der.specs.Keys.{text_shown};
-ghost use Rattle.cmc_der.specs.Building.{value};
+ghost use Rattle.cmc_der.specs.Builders.{value};
 ghost use Rattle.cmc_x509_build.specs.Octets as spec;
 
 use crate::addresses::address_at;

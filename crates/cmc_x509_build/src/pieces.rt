@@ -1,6 +1,6 @@
 //! The values that requests and certificates are built of, each written after the octets that stand before it.
 ghost use Rattle.std.specs.Prelude.{◌≡◌, ◌≢◌, ◌%◌, ◌++◌, ◌∷◌, OnOk};
-ghost use Rattle.cmc_der.specs.Building.{value};
+ghost use Rattle.cmc_der.specs.Builders.{value};
 ghost use Rattle.cmc_der.specs.Integers.{integer_of};
 
 use cmc_der::{put_integer, put_value};

@@ -1,6 +1,6 @@
 //! Certification requests.
 ghost use Rattle.std.specs.Prelude.{◌≡◌, ◌≤◌, ◌++◌, List, ℕ, length, IfOk, OnOk};
-ghost use Rattle.cmc_der.specs.Building.{value};
+ghost use Rattle.cmc_der.specs.Builders.{value};
 ghost use Rattle.cmc_der.specs.Keys.{key_shown, text_shown, PublicKey, RequestFields};
 ghost use Rattle.cmc_x509.specs.Certificates.{IsRequest};
 ghost use Rattle.cmc_x509.specs.declared.taking.TheConstants.{MAX_INPUT};

@@ -6,8 +6,8 @@ use Rattle.serde_json.specs.Read.{read}
 use Rattle.cmc_objects.specs.declared.entry.Entry.{Entry}
 use Rattle.cmc_rules.specs.Safety.{IsSafe}
 use Rattle.cmc_rules.specs.Runs.{IsRun, IsFinished}
-use Rattle.cmc_safety.specs.Completing.{CompletesIssuing}
-use Rattle.cmc_safety.specs.Standing.{KeepsInvariants}
+use Rattle.cmc_safety.specs.Completion.{CompletesIssuing}
+use Rattle.cmc_safety.specs.Invariants.{KeepsInvariants}
 use Rattle.cmc_report.specs.Text.{joined, history_lines, summary_lines}
 use Rattle.cmc_summary.specs.declared.summary.Summary.{Summary}
 use Rattle.cmc_setup.specs.declared.scenario.Scenario.{Scenario}
@@ -18,7 +18,7 @@ use Rattle.cmc_world.specs.Kept.{setting_of}
 use Rattle.cmc_plain.specs.Histories.{IsPlain, IsFull}
 use Rattle.cmc_plain.specs.Named.{NamesEachWait, IsWhole}
 use Rattle.cmc_plain.specs.Waits.{summary_at}
-use Rattle.cmc_audit_laws.specs.Passing.{IsAuditedYes}
+use Rattle.cmc_audit_laws.specs.AuditedYes.{IsAuditedYes}
 use Rattle.cmc_collect_run.specs.Answers as collection
 use Rattle.cmc_collect_run.specs.declared.answering.NotCollected.{NotCollected}
 

@@ -1,6 +1,6 @@
 use Rattle.std.proofs.Common.{◌≡◌, ◌++◌, length}
 use Rattle.cmc_x509.specs.Lists.{IsValueList}
-use Rattle.cmc_answers.specs.Wanting.{names_of_tag}
+use Rattle.cmc_answers.specs.Wanted.{names_of_tag}
 use Rattle.cmc_answers.proofs.wanting.names_of.Given as goal
 
 abbrev pub invariant-loop-own : goal.invariant-loop-own

@@ -1,8 +1,8 @@
 use Rattle.std.proofs.Common.{◌≡◌, ◌+◌, ◌<◌, List, Option, refl, sym, ap, subst, length, get_or, reverse, take}
 use Rattle.cmc_lines.specs.declared.line.PrintedLine.{PrintedLine}
-use Rattle.cmc_audit_ledger.specs.Following.{setting_of}
+use Rattle.cmc_audit_ledger.specs.Ledgers.{setting_of}
 use Rattle.cmc_audit_clauses.specs.declared.clause.Clause.{Clause}
-use Rattle.cmc_audit_steps.specs.Stepping.{AreKept, Went}
+use Rattle.cmc_audit_steps.specs.Steps.{AreKept, Went}
 use Rattle.cmc_audit.proofs.Coming.{fails_at, kept_first, taken_more}
 use Rattle.cmc_audit.proofs.auditing.take_in.Goals as goal
 

@@ -1,6 +1,6 @@
 use Rattle.std.proofs.Common.{◌≡◌, take, reverse}
-use Rattle.cmc_audit_ledger.specs.Following.{setting_of}
-use Rattle.cmc_audit_steps.specs.Stepping.{AreKept}
+use Rattle.cmc_audit_ledger.specs.Ledgers.{setting_of}
+use Rattle.cmc_audit_steps.specs.Steps.{AreKept}
 use Rattle.cmc_audit.proofs.auditing.take_in.Given as goal
 
 abbrev pub invariant-loop-line : goal.invariant-loop-line

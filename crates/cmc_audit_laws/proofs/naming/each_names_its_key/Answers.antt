@@ -2,7 +2,7 @@ use Rattle.std.proofs.Common.{subst}
 use Rattle.std.proofs.lemmas.List.{take_all}
 use Rattle.std.proofs.lemmas.List.Elements.{All-more}
 use Rattle.std.specs.List.{All}
-use Rattle.cmc_audit_laws.specs.Passing.{NamesItsKey}
+use Rattle.cmc_audit_laws.specs.AuditedYes.{NamesItsKey}
 use Rattle.cmc_audit_laws.proofs.naming.each_names_its_key.Goals as goal
 
 pub loop-entry-preserved : goal.loop-entry-preserved

@@ -1,6 +1,6 @@
 use Rattle.std.proofs.Common.{subst}
 use Rattle.std.specs.List.{All}
-use Rattle.cmc_audit_laws.specs.Passing.{NamesItsKey}
+use Rattle.cmc_audit_laws.specs.AuditedYes.{NamesItsKey}
 use Rattle.cmc_audit_laws.proofs.Reversed.{all_reversed}
 use Rattle.cmc_audit_laws.proofs.naming.entries_name_their_keys.Goals as goal
 

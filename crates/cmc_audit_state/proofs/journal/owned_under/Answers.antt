@@ -2,7 +2,7 @@ use Rattle.std.proofs.Common.{refl}
 use Rattle.std.specs.Prelude.{option_and_then}
 use Rattle.cmc_meta.specs.declared.key.Kind.TheVariants as kinds
 use Rattle.cmc_model.specs.Objects.{object_at}
-use Rattle.cmc_rules.specs.Viewing.{owned_in}
+use Rattle.cmc_rules.specs.Views.{owned_in}
 use Rattle.cmc_audit_state.specs.Journaled.{cached}
 use Rattle.cmc_audit_state.proofs.Listing.{picked_next, picked_all}
 use Rattle.cmc_audit_state.proofs.journal.owned_under.Goals as goal

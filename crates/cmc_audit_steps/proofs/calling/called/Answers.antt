@@ -2,7 +2,7 @@ use Rattle.std.proofs.Common.{subst, Option}
 use Rattle.std.proofs.lemmas.Result.{IfOk-weaker}
 use Rattle.cmc_objects.specs.declared.call.Call.{Call}
 use Rattle.cmc_audit_clauses.specs.declared.clause.Clause.TheVariants as clauses
-use Rattle.cmc_audit_calls.specs.Reading.{IsRead}
+use Rattle.cmc_audit_calls.specs.CallsOfLines.{IsRead}
 use Rattle.cmc_audit_steps.proofs.CallLines.{none_read, steps_so}
 use Rattle.cmc_audit_steps.proofs.calling.called.Goals as goal
 

@@ -1,6 +1,6 @@
 use Rattle.std.proofs.Common.{sym, subst, Option, ◌∙◌}
 use Rattle.cmc_audit_clauses.specs.declared.clause.Clause.{Clause}
-use Rattle.cmc_audit_steps.specs.Failing.{CallFails}
+use Rattle.cmc_audit_steps.specs.Failures.{CallFails}
 use Rattle.cmc_audit_steps.proofs.Calls.{called_on, called_some, misreplied, none_of}
 use Rattle.cmc_audit_steps.proofs.calling.make.Goals as goal
 

@@ -2,7 +2,7 @@ use Rattle.std.proofs.Common.{◌≡◌, ℤ, Bool, false, rules, sym, subst, w6
 use Rattle.std.proofs.lemmas.Int.{to_z-of_z}
 use Rattle.cmc_lines.specs.declared.line.PrintedLine.{PrintedLine}
 use Rattle.cmc_lines.specs.declared.line.PrintedLine.TheVariants as lines
-use Rattle.cmc_audit_steps.specs.Stepping.{Steps}
+use Rattle.cmc_audit_steps.specs.Steps.{Steps}
 use Rattle.cmc_audit_steps.proofs.lines.step.Goals as goal
 
 pub returns-in-Deliver : goal.returns-in-Deliver

@@ -1,7 +1,7 @@
 use Rattle.cmc_objects.specs.declared.entry.Entry.TheVariants as entries
 use Rattle.std.proofs.Common.{sym, subst, ◌∷◌}
 use Rattle.cmc_audit_ledger.specs.declared.ledger.Ledger.{Ledger}
-use Rattle.cmc_audit_ledger.specs.Following.{IsLedgerOf}
+use Rattle.cmc_audit_ledger.specs.Ledgers.{IsLedgerOf}
 use Rattle.cmc_audit_ledger.proofs.Events.{scripted}
 use Rattle.cmc_audit_steps.proofs.Going.{goes_on}
 use Rattle.cmc_audit_steps.proofs.Places.{plain_script}

@@ -2,7 +2,7 @@ use Rattle.std.proofs.Common.{ℤ, ◌∷◌, rules, subst, w64}
 use Rattle.std.proofs.lemmas.Int.{to_z-of_z}
 use Rattle.cmc_audit_clauses.specs.Clauses.{IsPlaced}
 use Rattle.cmc_objects.specs.declared.entry.Entry.TheVariants as entries
-use Rattle.cmc_audit_ledger.specs.Following.{IsLedgerOf}
+use Rattle.cmc_audit_ledger.specs.Ledgers.{IsLedgerOf}
 use Rattle.cmc_audit_steps.proofs.Going.{goes_on}
 use Rattle.cmc_audit_steps.proofs.Places.{plain_tick}
 use Rattle.cmc_audit_steps.proofs.placed.ticked.Goals as goal

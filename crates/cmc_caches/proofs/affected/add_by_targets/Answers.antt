@@ -1,7 +1,7 @@
 use Rattle.std.proofs.Common.{List, subst, sym, ◌∙◌, reverse}
 use Rattle.cmc_meta.specs.declared.key.Key.{Key}
 use Rattle.cmc_meta.specs.declared.key.Kind.TheVariants as kinds
-use Rattle.cmc_objects.specs.Watching.{kind_of_work}
+use Rattle.cmc_objects.specs.Informers.{kind_of_work}
 use Rattle.cmc_caches.specs.Affected.{AreListedBySecret, left_by}
 use Rattle.cmc_caches.proofs.Naming.{named_with, work_by_target}
 use Rattle.cmc_caches.proofs.Seeing.{sees_target}

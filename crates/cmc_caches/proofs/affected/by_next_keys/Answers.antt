@@ -1,6 +1,6 @@
 use Rattle.std.proofs.Common.{List, ℕ, subst, sym, ◌∙◌, reverse}
 use Rattle.cmc_meta.specs.declared.key.Kind.TheVariants as kinds
-use Rattle.cmc_objects.specs.Watching.{kind_of_work}
+use Rattle.cmc_objects.specs.Informers.{kind_of_work}
 use Rattle.cmc_caches.specs.Affected.{AreListedByUid, left_by}
 use Rattle.cmc_caches.proofs.Naming.{named_with, none_named, work_by_next}
 use Rattle.cmc_caches.proofs.Seeing.{sees_next}

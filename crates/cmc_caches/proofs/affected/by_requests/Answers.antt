@@ -1,7 +1,7 @@
 use Rattle.std.proofs.Common.{sym, ◌∙◌, reverse}
 use Rattle.std.proofs.lemmas.Result.{IfOk-weaker}
 use Rattle.cmc_meta.specs.declared.key.Kind.TheVariants as kinds
-use Rattle.cmc_objects.specs.Watching.{kind_of_work}
+use Rattle.cmc_objects.specs.Informers.{kind_of_work}
 use Rattle.cmc_caches.specs.Affected.{left_by}
 use Rattle.cmc_caches.proofs.Naming.{named_as, work_on_requests}
 use Rattle.cmc_caches.proofs.Seeing.{sees_owned, sees_worked}

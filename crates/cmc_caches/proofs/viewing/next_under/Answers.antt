@@ -1,6 +1,6 @@
 use Rattle.std.specs.Prelude.{option_and_then}
 use Rattle.cmc_model.specs.Objects.{object_at}
-use Rattle.cmc_rules.specs.Viewing.{next_in}
+use Rattle.cmc_rules.specs.Views.{next_in}
 use Rattle.cmc_caches.proofs.Listing.{picked_next}
 use Rattle.cmc_caches.proofs.viewing.next_under.Goals as goal
 

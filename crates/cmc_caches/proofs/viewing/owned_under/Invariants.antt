@@ -1,7 +1,7 @@
 use Rattle.std.proofs.Common.{◌≡◌, take}
 use Rattle.std.specs.Prelude.{filter_map, option_and_then}
 use Rattle.cmc_model.specs.Objects.{object_at}
-use Rattle.cmc_rules.specs.Viewing.{owned_in}
+use Rattle.cmc_rules.specs.Views.{owned_in}
 use Rattle.cmc_caches.proofs.viewing.owned_under.Given as goal
 
 abbrev pub invariant-loop-key : goal.invariant-loop-key

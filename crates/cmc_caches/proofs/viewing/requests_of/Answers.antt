@@ -3,7 +3,7 @@ use Rattle.std.proofs.lemmas.Result.{IfOk-weaker}
 use Rattle.std.specs.Prelude.{filter_map, option_and_then}
 use Rattle.cmc_meta.specs.declared.key.Key.{Key}
 use Rattle.cmc_model.specs.Objects.{object_at}
-use Rattle.cmc_rules.specs.Viewing.{owned_in}
+use Rattle.cmc_rules.specs.Views.{owned_in}
 use Rattle.cmc_caches.proofs.Owners.{requests_by_keys}
 use Rattle.cmc_caches.proofs.viewing.requests_of.Goals as goal
 

@@ -1,6 +1,6 @@
 use Rattle.std.proofs.Common.{◌≡◌, drop}
 use Rattle.cmc_collector.specs.Caches.{informer_object}
-use Rattle.cmc_collector.specs.Caching.{are_gone}
+use Rattle.cmc_collector.specs.CachePositions.{are_gone}
 use Rattle.cmc_collector.proofs.orphans.are_gone.Given as goal
 
 abbrev pub invariant-loop-owner : goal.invariant-loop-owner

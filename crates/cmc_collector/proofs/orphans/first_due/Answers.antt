@@ -2,8 +2,8 @@ use Rattle.std.proofs.Common.{Option, ap, sym, subst, ◌∙◌}
 use Rattle.std.specs.Prelude.{is_some}
 use Rattle.cmc_collector.specs.declared.examination.Examination.{Examination}
 use Rattle.cmc_collector.specs.Caches.{informer_object}
-use Rattle.cmc_collector.specs.Caching.{is_orphan_in}
-use Rattle.cmc_collector.specs.Examining.{current_of}
+use Rattle.cmc_collector.specs.CachePositions.{is_orphan_in}
+use Rattle.cmc_collector.specs.Examinations.{current_of}
 use Rattle.cmc_collector.specs.Rows.{Rowed}
 use Rattle.cmc_collector.proofs.Firsts.{RowsLeft, all_rows_left, due_has_row, due_test, fewer_rows_left, first_found, first_row}
 use Rattle.cmc_collector.proofs.orphans.first_due.Goals as goal

@@ -1,7 +1,7 @@
 use Rattle.std.proofs.Common.{refl, sym, ap, ◌∙◌}
 use Rattle.cmc_meta.specs.Keys.{key_eq}
 use Rattle.cmc_collector.specs.Caches.{informer_object}
-use Rattle.cmc_collector.specs.Caching.{has_any_owner}
+use Rattle.cmc_collector.specs.CachePositions.{has_any_owner}
 use Rattle.cmc_collector.specs.Rows.{has_examine_row}
 use Rattle.cmc_collector.proofs.Looping.{given_up}
 use Rattle.cmc_collector.proofs.rows.give_up_row.Goals as goal

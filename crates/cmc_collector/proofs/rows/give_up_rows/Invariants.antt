@@ -1,7 +1,7 @@
 use Rattle.std.proofs.Common.{◌≡◌, true}
 use Rattle.cmc_meta.specs.declared.key.Key.{Key}
 use Rattle.cmc_collector.specs.Caches.{informer_object}
-use Rattle.cmc_collector.specs.Caching.{has_any_owner}
+use Rattle.cmc_collector.specs.CachePositions.{has_any_owner}
 use Rattle.cmc_collector.specs.Rows.{has_examine_row, examination_under}
 use Rattle.cmc_collector.proofs.rows.give_up_rows.Given as goal
 

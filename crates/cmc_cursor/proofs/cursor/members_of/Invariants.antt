@@ -1,6 +1,6 @@
 use Rattle.std.proofs.Common.{◌≡◌, map, ◌++◌}
 use Rattle.serde_json.specs.View.{members_view}
-use Rattle.cmc_cursor.specs.Reading.{fields_of}
+use Rattle.cmc_cursor.specs.Members.{fields_of}
 use Rattle.cmc_cursor.specs.Seen.{shown}
 use Rattle.cmc_cursor.proofs.cursor.members_of.Given as goal
 

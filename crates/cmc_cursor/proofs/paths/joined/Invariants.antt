@@ -1,5 +1,5 @@
 use Rattle.std.proofs.Common.{◌≡◌, ◌++◌, drop, string_bytes}
-use Rattle.cmc_cursor.specs.Reading.{dotted}
+use Rattle.cmc_cursor.specs.Members.{dotted}
 use Rattle.cmc_cursor.proofs.paths.joined.Given as goal
 
 abbrev pub invariant-loop-name : goal.invariant-loop-name

@@ -2,7 +2,7 @@ use Rattle.std.proofs.Common.{rules, ◌∙◌}
 use Rattle.std.proofs.lemmas.Iterator.{YieldsList-from_slice}
 use Rattle.std.proofs.lemmas.Iterator.Consumers.{YieldsList-from_filter, count_from_yields_List}
 use Rattle.std.proofs.lemmas.List.Sums.{length-filter}
-use Rattle.cmc_history.specs.Replaying.{is_written}
+use Rattle.cmc_history.specs.Replays.{is_written}
 use Rattle.cmc_history.proofs.standing.count_written.Goals as goal
 
 pub returns : goal.returns

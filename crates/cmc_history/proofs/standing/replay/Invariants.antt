@@ -1,5 +1,5 @@
 use Rattle.std.proofs.Common.{◌≡◌, take, reverse}
-use Rattle.cmc_history.specs.Replaying.{replayed}
+use Rattle.cmc_history.specs.Replays.{replayed}
 use Rattle.cmc_history.proofs.standing.replay.Given as goal
 
 abbrev pub invariant-loop-entry : goal.invariant-loop-entry

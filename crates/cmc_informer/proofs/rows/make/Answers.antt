@@ -1,5 +1,5 @@
 use Rattle.std.proofs.Common.{ap}
-use Rattle.cmc_informer.specs.Superseding.{writes_of}
+use Rattle.cmc_informer.specs.Superseded.{writes_of}
 use Rattle.cmc_informer.proofs.Preparing.{made_next}
 use Rattle.cmc_informer.proofs.Rooms.{rooms_left}
 use Rattle.cmc_informer.proofs.rows.make.Goals as goal

@@ -2,7 +2,7 @@ use Rattle.std.proofs.Common.{◌≡◌}
 use Rattle.std.specs.Vec.Iter.{into_iter_items}
 use Rattle.cmc_informer.specs.Caches.{objects_in, after_writes}
 use Rattle.cmc_informer.specs.Indexed.{HasRoomFor, IsIndexed}
-use Rattle.cmc_informer.specs.Superseding.{writes_of}
+use Rattle.cmc_informer.specs.Superseded.{writes_of}
 use Rattle.cmc_informer.proofs.rows.make.Given as goal
 
 abbrev pub invariant-loop-it : goal.invariant-loop-it

@@ -1,7 +1,7 @@
 use Rattle.std.proofs.Common.{◌≡◌, ◌+◌, ◌-◌, get_or, arith, reverse, ap, ℕ, ◌∙◌}
 use Rattle.cmc_model.specs.Writes.{contents, of_kind, oldest}
 use Rattle.cmc_informer.specs.Caches.{after_writes}
-use Rattle.cmc_informer.specs.Superseding.{writes_of}
+use Rattle.cmc_informer.specs.Superseded.{writes_of}
 use Rattle.cmc_informer.proofs.LastWrites.{last_next}
 use Rattle.cmc_informer.proofs.rows.prepare.Goals as goal
 

@@ -3,7 +3,7 @@ use Rattle.cmc_meta.specs.declared.key.Key.{Key}
 use Rattle.cmc_model.specs.Writes.{contents, is_known, of_kind, oldest}
 use Rattle.cmc_informer.specs.Caches.{objects_in, after_writes}
 use Rattle.cmc_informer.specs.Indexed.{HasRoomFor, IsIndexed}
-use Rattle.cmc_informer.specs.Superseding.{has_seen, writes_of}
+use Rattle.cmc_informer.specs.Superseded.{has_seen, writes_of}
 use Rattle.cmc_informer.proofs.rows.prepare.Given as goal
 
 abbrev pub invariant-loop-place : goal.invariant-loop-place

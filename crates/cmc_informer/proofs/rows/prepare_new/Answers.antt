@@ -1,7 +1,7 @@
 use Rattle.std.proofs.Common.{refl, sym, subst, List}
 use Rattle.cmc_model.specs.declared.write.Write.{Write}
 use Rattle.cmc_informer.specs.Indexed.{HasRoomFor}
-use Rattle.cmc_informer.specs.Superseding.{writes_of}
+use Rattle.cmc_informer.specs.Superseded.{writes_of}
 use Rattle.cmc_informer.proofs.LastWrites.{change_added}
 use Rattle.cmc_informer.proofs.Rooms.{room_added, rooms_stay}
 use Rattle.cmc_informer.proofs.rows.prepare_new.Goals as goal

@@ -1,7 +1,7 @@
 use Rattle.std.proofs.Common.{◌≡◌, ◌≤◌, reverse}
 use Rattle.cmc_meta.specs.declared.key.Key.{Key}
 use Rattle.cmc_informer.specs.Indexes.{mark_in}
-use Rattle.cmc_informer.specs.Watching.{is_changed}
+use Rattle.cmc_informer.specs.Watches.{is_changed}
 use Rattle.cmc_informer.proofs.watch.mark_writes.Given as goal
 
 abbrev pub invariant-loop-place : goal.invariant-loop-place

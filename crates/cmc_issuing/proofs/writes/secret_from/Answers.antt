@@ -1,7 +1,7 @@
 use Rattle.std.proofs.Common.{◌≡◌, ℤ, rules, sym, w64}
 use Rattle.std.specs.Option.{option_copied}
 use Rattle.std.proofs.lemmas.Int.{to_z-of_z}
-use Rattle.cmc_rules.specs.Issuing as table
+use Rattle.cmc_rules.specs.Issuance as table
 use Rattle.cmc_issuing.proofs.Planned.{asked, asked_for, passed_on, with_found}
 use Rattle.cmc_issuing.proofs.writes.secret_from.Goals as goal
 

@@ -3,7 +3,7 @@ use Rattle.std.specs.Option.{option_copied}
 use Rattle.std.proofs.lemmas.Int.{to_z-of_z}
 use Rattle.cmc_objects.specs.declared.certificate.Certificate.{Certificate}
 use Rattle.cmc_objects.specs.declared.certificate.CertStatus.{CertStatus}
-use Rattle.cmc_rules.specs.Issuing as table
+use Rattle.cmc_rules.specs.Issuance as table
 use Rattle.cmc_rules.specs.NextKeys.{named_key}
 use Rattle.cmc_issuing.proofs.Planned.{asked_for, no_certificate, passed_on, with_named}
 use Rattle.cmc_issuing.proofs.writes.secret_of.Goals as goal

@@ -1,6 +1,6 @@
 use Rattle.std.proofs.Common.{◌≡◌, drop}
 use Rattle.serde_json.specs.View.{members_view, items_view}
-use Rattle.cmc_line_reading.specs.Nesting.{items_within, members_within}
+use Rattle.cmc_line_reading.specs.Depths.{items_within, members_within}
 use Rattle.cmc_line_reading.proofs.nesting.+nests.Given as goal
 
 abbrev pub invariant-items_nest-loop-item : goal.invariant-items_nest-loop-item

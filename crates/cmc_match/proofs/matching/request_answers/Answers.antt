@@ -1,6 +1,6 @@
 use Rattle.std.proofs.Common.{Bool, sym, subst}
 use Rattle.std.specs.Prelude.{◌↔◌, IsTrue}
-use Rattle.cmc_match.specs.Matching.{HasKey, Matches}
+use Rattle.cmc_match.specs.Matches.{HasKey, Matches}
 use Rattle.cmc_match.proofs.ReadLaws.{answered}
 use Rattle.cmc_match.proofs.matching.request_answers.Goals as goal
 

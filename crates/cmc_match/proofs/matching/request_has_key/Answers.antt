@@ -1,6 +1,6 @@
 use Rattle.std.proofs.Common.{Bool, sym, subst}
 use Rattle.std.specs.Prelude.{◌↔◌, IsTrue}
-use Rattle.cmc_match.specs.Matching.{HasKey}
+use Rattle.cmc_match.specs.Matches.{HasKey}
 use Rattle.cmc_match.proofs.MatchLaws.{keys_match}
 use Rattle.cmc_match.proofs.matching.request_has_key.Goals as goal
 

@@ -1,6 +1,6 @@
 use Rattle.std.proofs.Common.{Bool, sym, subst}
 use Rattle.std.specs.Prelude.{◌↔◌, IsTrue}
-use Rattle.cmc_match.specs.Matching.{Matches}
+use Rattle.cmc_match.specs.Matches.{Matches}
 use Rattle.cmc_match.proofs.MatchLaws.{matching}
 use Rattle.cmc_match.proofs.matching.request_matches.Goals as goal
 

@@ -1,6 +1,6 @@
 use Rattle.std.proofs.Common.{◌≡◌, map, drop}
 use Rattle.cmc_print.specs.Printed.{owner_tree}
-use Rattle.cmc_writer.specs.Adding.{with_values}
+use Rattle.cmc_writer.specs.Additions.{with_values}
 use Rattle.cmc_object_lines.proofs.objects.add_owners.Given as goal
 
 abbrev pub invariant-loop-owner : goal.invariant-loop-owner

@@ -1,6 +1,6 @@
 use Rattle.std.proofs.Common.{◌≡◌}
 use Rattle.serde_json.specs.Data.{string}
-use Rattle.cmc_writer.specs.Adding.{with_rows}
+use Rattle.cmc_writer.specs.Additions.{with_rows}
 use Rattle.cmc_object_lines.specs.ObjectRows.{pair_rows}
 use Rattle.cmc_object_lines.proofs.rows.add_pairs.Given as goal
 

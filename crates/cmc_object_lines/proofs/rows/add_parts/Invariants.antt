@@ -1,6 +1,6 @@
 use Rattle.std.proofs.Common.{◌≡◌}
 use Rattle.cmc_print.specs.Puts.{base64_text}
-use Rattle.cmc_writer.specs.Adding.{with_rows}
+use Rattle.cmc_writer.specs.Additions.{with_rows}
 use Rattle.cmc_object_lines.specs.ObjectRows.{pair_rows}
 use Rattle.cmc_object_lines.proofs.rows.add_parts.Given as goal
 

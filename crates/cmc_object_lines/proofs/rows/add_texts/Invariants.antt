@@ -1,6 +1,6 @@
 use Rattle.std.proofs.Common.{◌≡◌, map, drop}
 use Rattle.serde_json.specs.Data.{string}
-use Rattle.cmc_writer.specs.Adding.{with_values}
+use Rattle.cmc_writer.specs.Additions.{with_values}
 use Rattle.cmc_object_lines.proofs.rows.add_texts.Given as goal
 
 abbrev pub invariant-loop-text : goal.invariant-loop-text

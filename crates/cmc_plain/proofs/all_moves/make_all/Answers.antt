@@ -3,7 +3,7 @@ use Rattle.std.proofs.lemmas.Iterator.Adapters.{YieldsList-from_vec}
 use Rattle.std.proofs.lemmas.Iterator.Consumers.{YieldsList-turn, YieldsList-end}
 use Rattle.cmc_setup.specs.Setups.{Setup}
 use Rattle.cmc_world.specs.Kept.{Seen, setting_of}
-use Rattle.cmc_world.specs.Leading.{IsStep}
+use Rattle.cmc_world.specs.Leads.{IsStep}
 use Rattle.cmc_plain.proofs.Courses.{led_more, led_all, led_some}
 use Rattle.cmc_plain.proofs.all_moves.make_all.Goals as goal
 

@@ -1,6 +1,6 @@
 use Rattle.std.proofs.Common.{◌≡◌, length, take}
 use Rattle.cmc_world.specs.Kept.{setting_of}
-use Rattle.cmc_world.specs.Leading.{Lead}
+use Rattle.cmc_world.specs.Leads.{Lead}
 use Rattle.cmc_plain.proofs.all_moves.make_all.Given as goal
 
 abbrev pub invariant-loop-step : goal.invariant-loop-step

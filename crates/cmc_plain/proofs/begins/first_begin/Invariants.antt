@@ -1,6 +1,6 @@
 use Rattle.cmc_world.specs.Kept.{setting_of}
 use Rattle.cmc_plain.specs.Fed.{IsFed}
-use Rattle.cmc_plain.specs.Keeping.{IsKeptRight}
+use Rattle.cmc_plain.specs.KeptLooks.{IsKeptRight}
 use Rattle.cmc_plain.specs.Searches.{HasNoneBefore, FitsSome}
 use Rattle.cmc_plain.proofs.begins.first_begin.Given as goal
 

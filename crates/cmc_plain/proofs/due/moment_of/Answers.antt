@@ -4,7 +4,7 @@ use Rattle.cmc_objects.specs.declared.certificate.CertStatus.{CertStatus}
 use Rattle.cmc_policies.specs.declared.renewal.Renew.{Renew}
 use Rattle.cmc_match.specs.Facts.{pair_at}
 use Rattle.cmc_rules.specs.Sound.{IsEndOfBackoff, IsRenewal, IsTriggerMoment}
-use Rattle.cmc_rules.specs.Triggering.{frame_of}
+use Rattle.cmc_rules.specs.Trigger.{frame_of}
 use Rattle.cmc_plain.specs.DueMoments.{IsFirstAfter}
 use Rattle.cmc_plain.proofs.Undue.{sooner_first}
 use Rattle.cmc_plain.proofs.due.moment_of.Goals as goal

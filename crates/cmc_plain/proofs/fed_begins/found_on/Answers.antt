@@ -6,7 +6,7 @@ use Rattle.cmc_pass.specs.declared.pass.Act.{Act}
 use Rattle.cmc_pass.specs.declared.pass.Views.{Views}
 use Rattle.cmc_world.specs.Kept.{setting_of}
 use Rattle.cmc_plain.specs.DueMoments.{HasDatedMoments}
-use Rattle.cmc_plain.specs.Keeping.{IsCurrent, IsMine}
+use Rattle.cmc_plain.specs.KeptLooks.{IsCurrent, IsMine}
 use Rattle.cmc_plain.specs.declared.openings.Opening.{Opening}
 use Rattle.cmc_plain.proofs.KeptActs.{found_does}
 use Rattle.cmc_plain.proofs.Undue.{dated_moments}

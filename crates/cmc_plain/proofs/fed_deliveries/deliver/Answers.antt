@@ -5,7 +5,7 @@ use Rattle.cmc_moves.specs.Answers.{AnswersDelivery, Leaves}
 use Rattle.cmc_moves.specs.declared.moves.Move.TheVariants as moves
 use Rattle.cmc_moves.specs.declared.moves.Stepped.{Stepped}
 use Rattle.cmc_moves.proofs.Tables.{the_done}
-use Rattle.cmc_waking.specs.Feeding.{added_if}
+use Rattle.cmc_waking.specs.Feeds.{added_if}
 use Rattle.cmc_waking.specs.Queues.{queue_in, row_at, WakesSome}
 use Rattle.cmc_world.specs.Kept.{on}
 use Rattle.cmc_plain.specs.Fed.{IsReach}

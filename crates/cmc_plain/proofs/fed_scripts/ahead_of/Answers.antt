@@ -2,7 +2,7 @@ use Rattle.std.proofs.Common.{◌≡◌, ◌∙◌, ap, Some, List, subst}
 use Rattle.cmc_meta.specs.declared.key.Key.{Key}
 use Rattle.cmc_caches.specs.Affected.{is_among}
 use Rattle.cmc_queue.specs.Queues.{row_of}
-use Rattle.cmc_waking.specs.Feeding.{started}
+use Rattle.cmc_waking.specs.Feeds.{started}
 use Rattle.cmc_world.specs.Kept.{setting_of}
 use Rattle.cmc_plain.proofs.KnownKeys.{ahead_start, ahead_stop, ahead_tick}
 use Rattle.cmc_plain.proofs.fed_scripts.ahead_of.Goals as goal

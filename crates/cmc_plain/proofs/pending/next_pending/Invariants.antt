@@ -2,7 +2,7 @@ use Rattle.cmc_queue.specs.Queues.{fresh_count}
 use Rattle.cmc_waking.specs.Queues.{queue_in}
 use Rattle.cmc_world.specs.Kept.{setting_of}
 use Rattle.cmc_plain.specs.Fed.{IsFed}
-use Rattle.cmc_plain.specs.Keeping.{IsKeptRight}
+use Rattle.cmc_plain.specs.KeptLooks.{IsKeptRight}
 use Rattle.cmc_plain.proofs.pending.next_pending.Given as goal
 
 abbrev pub invariant-loop-key : goal.invariant-loop-key

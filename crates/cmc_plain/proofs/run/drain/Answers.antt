@@ -2,7 +2,7 @@ use Rattle.std.proofs.Common.{sym, subst}
 use Rattle.cmc_rules.specs.Runs.{IsFinished}
 use Rattle.cmc_world.specs.Kept.{setting_of}
 use Rattle.cmc_plain.specs.declared.run.Turn.{Turn}
-use Rattle.cmc_plain.specs.Driving.{EndsFrom, IsTurn}
+use Rattle.cmc_plain.specs.Turns.{EndsFrom, IsTurn}
 use Rattle.cmc_plain.specs.Histories.{IsFull}
 use Rattle.cmc_plain.proofs.Turns.{driving_on, ended_from}
 use Rattle.cmc_plain.proofs.run.drain.Goals as goal

@@ -1,4 +1,4 @@
-use Rattle.cmc_plain.specs.Driving.{IsDriving}
+use Rattle.cmc_plain.specs.Turns.{IsDriving}
 use Rattle.cmc_plain.proofs.run.drain.Given as goal
 
 abbrev pub invariant-loop-turn : goal.invariant-loop-turn

@@ -1,7 +1,7 @@
 use Rattle.std.proofs.Common.{subst}
 use Rattle.std.proofs.lemmas.Result.{IfOk-weaker}
 use Rattle.cmc_world.specs.Kept.{Seen}
-use Rattle.cmc_plain.specs.Driving.{IsDrained}
+use Rattle.cmc_plain.specs.Turns.{IsDrained}
 use Rattle.cmc_plain.proofs.Turns.{driven_by}
 use Rattle.cmc_plain.proofs.run.drive_plain.Goals as goal
 

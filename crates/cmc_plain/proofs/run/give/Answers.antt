@@ -3,7 +3,7 @@ use Rattle.cmc_rules.specs.Runs.{IsRun}
 use Rattle.cmc_setup.specs.Setups.{Setup, IsSetup}
 use Rattle.cmc_world.specs.Kept.{Seen, setting_of, on}
 use Rattle.cmc_plain.specs.declared.run.Turn.{Turn}
-use Rattle.cmc_plain.specs.Driving.{IsTurn}
+use Rattle.cmc_plain.specs.Turns.{IsTurn}
 use Rattle.cmc_moves.specs.declared.moves.Move.TheVariants as moves
 use Rattle.cmc_plain.proofs.Asking.{with_value}
 use Rattle.cmc_plain.proofs.Turns.{turned}

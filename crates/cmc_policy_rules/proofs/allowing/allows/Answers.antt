@@ -1,6 +1,6 @@
 use Rattle.std.proofs.Common.{sym, ◌∙◌, ap}
 use Rattle.std.specs.Prelude.{not}
-use Rattle.cmc_policy_rules.specs.Allowing.{allows, all_fields, refused_field}
+use Rattle.cmc_policy_rules.specs.Allowed.{allows, all_fields, refused_field}
 use Rattle.cmc_policy_rules.specs.declared.decision.Field.{Field}
 use Rattle.cmc_policy_rules.specs.declared.decision.Field.TheVariants.{CommonName}
 use Rattle.cmc_policy_rules.proofs.Finds.{find_here, find_further, find_none}

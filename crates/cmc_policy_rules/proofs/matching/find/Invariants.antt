@@ -1,5 +1,5 @@
 use Rattle.std.proofs.Common.{ℕ, List, ◌++◌, length}
-use Rattle.cmc_policy_rules.specs.Matching.{EndsWith}
+use Rattle.cmc_policy_rules.specs.Patterns.{EndsWith}
 use Rattle.cmc_policy_rules.proofs.matching.find.Given as goal
 
 -- what is left is an end of the text, and has each place of the piece

@@ -1,5 +1,5 @@
 use Rattle.std.proofs.lemmas.Bool.Decides.{same_from_decides}
-use Rattle.cmc_policy_rules.specs.Matching.{is_match}
+use Rattle.cmc_policy_rules.specs.Patterns.{is_match}
 use Rattle.cmc_policy_rules.proofs.Decided.{is_match-Decides}
 use Rattle.cmc_policy_rules.proofs.matching.matches.Goals as goal
 

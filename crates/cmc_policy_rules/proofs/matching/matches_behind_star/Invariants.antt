@@ -1,5 +1,5 @@
 use Rattle.std.proofs.Common.{◌↔◌, ◌∷◌, length}
-use Rattle.cmc_policy_rules.specs.Matching.{star, MatchesPattern}
+use Rattle.cmc_policy_rules.specs.Patterns.{star, MatchesPattern}
 use Rattle.cmc_policy_rules.proofs.matching.matches_behind_star.Given as goal
 
 -- what is left to match decides

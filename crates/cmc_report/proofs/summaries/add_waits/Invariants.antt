@@ -1,6 +1,6 @@
 use Rattle.std.proofs.Common.{◌≡◌, map, drop}
 use Rattle.cmc_report.specs.Trees.{waiting_tree}
-use Rattle.cmc_writer.specs.Adding.{with_values}
+use Rattle.cmc_writer.specs.Additions.{with_values}
 use Rattle.cmc_report.proofs.summaries.add_waits.Given as goal
 
 abbrev pub invariant-loop-waiting : goal.invariant-loop-waiting

@@ -1,5 +1,5 @@
 use Rattle.std.proofs.Common.{drop}
-use Rattle.cmc_setup.specs.Holding.{held_of}
+use Rattle.cmc_setup.specs.HeldInformers.{held_of}
 use Rattle.cmc_setup.proofs.Grips.{IsInTurnSoFar}
 use Rattle.cmc_setup.proofs.holding.are_held_in_turn.Given as goal
 

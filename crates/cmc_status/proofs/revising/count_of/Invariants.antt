@@ -1,5 +1,5 @@
 use Rattle.std.proofs.Common.{◌≡◌, ◌+◌, ◌≤◌, length, filter, drop}
-use Rattle.cmc_rules.specs.Revising as spec
+use Rattle.cmc_rules.specs.RevisionManager as spec
 use Rattle.cmc_status.proofs.revising.count_of.Given as goal
 
 -- those so far and those that are left are all

@@ -1,6 +1,6 @@
 use Rattle.std.proofs.Common.{◌≡◌, None, filter, drop}
 use Rattle.std.specs.Option.{option_copied}
-use Rattle.cmc_rules.specs.Revising as spec
+use Rattle.cmc_rules.specs.RevisionManager as spec
 use Rattle.cmc_status.proofs.revising.oldest_in.Given as goal
 
 -- the oldest of those so far and of those that are left is the oldest of all

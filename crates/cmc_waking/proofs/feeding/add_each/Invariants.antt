@@ -2,7 +2,7 @@ use Rattle.std.proofs.Common.{◌≡◌, take}
 use Rattle.cmc_meta.specs.declared.key.Key.{Key}
 use Rattle.cmc_queue.specs.Queues.{row_of, KeepsRoom}
 use Rattle.cmc_caches.specs.Affected.{is_among}
-use Rattle.cmc_waking.specs.Feeding.{added_if}
+use Rattle.cmc_waking.specs.Feeds.{added_if}
 use Rattle.cmc_waking.proofs.feeding.add_each.Given as goal
 
 abbrev pub invariant-loop-key : goal.invariant-loop-key

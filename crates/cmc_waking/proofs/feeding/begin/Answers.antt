@@ -1,5 +1,5 @@
 use Rattle.cmc_queue.specs.Rows.{taken}
-use Rattle.cmc_waking.specs.Feeding.{timed_too}
+use Rattle.cmc_waking.specs.Feeds.{timed_too}
 use Rattle.cmc_waking.proofs.Feeds.{changes_twice, place_at_stays, room_twice}
 use Rattle.cmc_waking.proofs.feeding.begin.Goals as goal
 

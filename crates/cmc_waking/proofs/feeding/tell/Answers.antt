@@ -1,6 +1,6 @@
 use Rattle.std.proofs.Common.{ap, ◌∙◌}
 use Rattle.cmc_caches.specs.Affected.{is_among}
-use Rattle.cmc_waking.specs.Feeding.{added_if}
+use Rattle.cmc_waking.specs.Feeds.{added_if}
 use Rattle.cmc_waking.proofs.feeding.tell.Goals as goal
 
 pub add_each-requires : goal.add_each-requires

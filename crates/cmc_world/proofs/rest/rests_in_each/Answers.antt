@@ -1,6 +1,6 @@
 use Rattle.cmc_objects.specs.declared.role.Role.{Role}
 use Rattle.cmc_world.specs.Kept.{setting_of}
-use Rattle.cmc_rules.specs.Resting.{RestsIn}
+use Rattle.cmc_rules.specs.Rest.{RestsIn}
 use Rattle.cmc_world.proofs.Waiting.{one_more_at, all_found}
 use Rattle.cmc_world.proofs.rest.rests_in_each.Goals as goal
 

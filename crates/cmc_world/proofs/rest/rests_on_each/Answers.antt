@@ -1,5 +1,5 @@
 use Rattle.cmc_model.specs.declared.write.Write.{Write}
-use Rattle.cmc_rules.specs.Resting.{RestsOn}
+use Rattle.cmc_rules.specs.Rest.{RestsOn}
 use Rattle.cmc_world.specs.Kept.{setting_of}
 use Rattle.cmc_world.proofs.Waiting.{one_more, all_found}
 use Rattle.cmc_world.proofs.rest.rests_on_each.Goals as goal

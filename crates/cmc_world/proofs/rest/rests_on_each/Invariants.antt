@@ -1,7 +1,7 @@
 use Rattle.std.proofs.Common.{take}
 use Rattle.std.specs.List.{All}
 use Rattle.cmc_model.specs.declared.write.Write.{Write}
-use Rattle.cmc_rules.specs.Resting.{RestsOn}
+use Rattle.cmc_rules.specs.Rest.{RestsOn}
 use Rattle.cmc_world.specs.Kept.{setting_of}
 use Rattle.cmc_world.specs.Rest.{RestsOnAll}
 use Rattle.cmc_world.proofs.rest.rests_on_each.Given as goal

@@ -2,7 +2,7 @@ use Rattle.std.proofs.Common.{◌≡◌, subst, sym}
 use Rattle.std.specs.Prelude.{◌↔◌, IsTrue}
 use Rattle.cmc_meta.specs.declared.key.Kind.{Kind}
 use Rattle.cmc_meta.specs.declared.key.Key.{Key}
-use Rattle.cmc_rules.specs.Resting.{RestsOn}
+use Rattle.cmc_rules.specs.Rest.{RestsOn}
 use Rattle.cmc_world.specs.Kept.{setting_of}
 use Rattle.cmc_world.proofs.Elsewhere.{rests_elsewhere}
 use Rattle.cmc_world.proofs.Looked.{one_looked}

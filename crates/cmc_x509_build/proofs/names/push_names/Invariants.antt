@@ -1,5 +1,5 @@
 use Rattle.std.proofs.Common.{◌≡◌, ◌++◌, flat_map, drop}
-use Rattle.cmc_der.specs.Building.{value}
+use Rattle.cmc_der.specs.Builders.{value}
 use Rattle.cmc_x509_build.proofs.names.push_names.Given as goal
 
 abbrev pub invariant-loop-text : goal.invariant-loop-text

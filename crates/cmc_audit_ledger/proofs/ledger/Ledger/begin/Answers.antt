@@ -1,7 +1,7 @@
 use Rattle.std.proofs.Common.{ℤ, length, subst, rules, w64}
 use Rattle.std.proofs.lemmas.Int.{to_z-of_z}
-use Rattle.cmc_audit_state.specs.Standing.{standing_of}
-use Rattle.cmc_audit_ledger.specs.Starting.{IsFirst}
+use Rattle.cmc_audit_state.specs.Standings.{standing_of}
+use Rattle.cmc_audit_ledger.specs.Starts.{IsFirst}
 use Rattle.cmc_audit_ledger.proofs.Events.{begun_on}
 use Rattle.cmc_audit_ledger.proofs.ledger.Ledger.begin.Goals as goal
 

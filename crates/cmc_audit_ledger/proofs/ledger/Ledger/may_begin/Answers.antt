@@ -1,6 +1,6 @@
 use Rattle.std.proofs.Common.{◌≡◌, ℤ, Bool, true, false, not, refl, subst, rules, w64}
 use Rattle.std.proofs.lemmas.Int.{to_z-of_z}
-use Rattle.cmc_audit_ledger.specs.Placing.{IsNext}
+use Rattle.cmc_audit_ledger.specs.Positions.{IsNext}
 use Rattle.cmc_audit_ledger.proofs.Permits.{begins, free_of}
 use Rattle.cmc_audit_ledger.proofs.ledger.Ledger.may_begin.Goals as goal
 

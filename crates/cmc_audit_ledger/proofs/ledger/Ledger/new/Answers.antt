@@ -5,7 +5,7 @@ use Rattle.cmc_objects.specs.declared.role.Role.{Role}
 use Rattle.cmc_store.specs.Kept.{Kept}
 use Rattle.cmc_model.specs.Replies.{empty_store}
 use Rattle.cmc_model.specs.Histories.{role_eq}
-use Rattle.cmc_audit_state.specs.Standing.{first_standing}
+use Rattle.cmc_audit_state.specs.Standings.{first_standing}
 use Rattle.cmc_audit_ledger.proofs.Beginning.{follows_none}
 use Rattle.cmc_audit_ledger.proofs.ledger.Ledger.new.Goals as goal
 

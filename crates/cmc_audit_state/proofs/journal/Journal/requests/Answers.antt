@@ -6,7 +6,7 @@ use Rattle.cmc_meta.specs.declared.key.Key.{Key}
 use Rattle.cmc_meta.specs.declared.key.Kind.TheVariants as kinds
 use Rattle.cmc_meta.specs.Keys.{key_cmp}
 use Rattle.cmc_model.specs.Objects.{object_at}
-use Rattle.cmc_rules.specs.Viewing.{owned_in}
+use Rattle.cmc_rules.specs.Views.{owned_in}
 use Rattle.cmc_audit_state.specs.Journaled.{cached}
 use Rattle.cmc_audit_state.proofs.Indexing.{requests_found, none_sorted}
 use Rattle.cmc_audit_state.proofs.journal.Journal.requests.Goals as goal

@@ -1,6 +1,6 @@
 use Rattle.std.specs.List.{list_any}
 use Rattle.cmc_model.specs.Histories.{role_eq}
-use Rattle.cmc_audit_state.specs.Standing.{first_standing}
+use Rattle.cmc_audit_state.specs.Standings.{first_standing}
 use Rattle.cmc_audit_state.proofs.EachRole.{standing_of_each}
 use Rattle.cmc_audit_state.proofs.standings.Standings.new.Goals as goal
 

@@ -5,7 +5,7 @@ use Rattle.cmc_objects.specs.declared.role.Role.{Role}
 use Rattle.cmc_objects.specs.Roles.{role_rank}
 use Rattle.cmc_objects.proofs.Ranks.{rank_low}
 use Rattle.cmc_model.specs.declared.write.Write.{Write}
-use Rattle.cmc_rules.specs.Viewing.{Caches}
+use Rattle.cmc_rules.specs.Views.{Caches}
 use Rattle.cmc_caches.specs.Told.{caches_of, empty_caches}
 use Rattle.cmc_caches.specs.Affected.{AreLeft}
 use Rattle.cmc_caches.proofs.Births.{each_of_one_key}

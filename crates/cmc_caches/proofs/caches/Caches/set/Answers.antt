@@ -1,7 +1,7 @@
 use Rattle.std.proofs.Common.{◌<◌, ◌∙◌, List, length, subst, ap, arith}
 use Rattle.cmc_objects.proofs.Ranks.{rank_low}
 use Rattle.cmc_model.specs.Histories.{role_eq}
-use Rattle.cmc_rules.specs.Viewing.{Caches}
+use Rattle.cmc_rules.specs.Views.{Caches}
 use Rattle.cmc_caches.specs.Told.{caches_of}
 use Rattle.std.specs.Prelude.{◌≡◌, if◌then◌else◌, slice_set}
 use Rattle.cmc_caches.proofs.EachRole.{row_put}

@@ -1,6 +1,6 @@
 use Rattle.std.proofs.Common.{subst}
-use Rattle.cmc_collector.specs.Owning.{CollectsWell}
-use Rattle.cmc_collector.specs.Playing.{Collecting, on}
+use Rattle.cmc_collector.specs.Owners.{CollectsWell}
+use Rattle.cmc_collector.specs.Replays.{Collecting, on}
 use Rattle.cmc_collector.proofs.Promise.{collects_well}
 use Rattle.cmc_collector.proofs.collection.Collection.collects_well.Goals as goal
 

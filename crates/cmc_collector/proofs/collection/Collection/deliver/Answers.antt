@@ -5,12 +5,12 @@ use Rattle.cmc_meta.specs.declared.key.Key.{Key}
 use Rattle.cmc_meta.specs.Keys.{key_cmp}
 use Rattle.cmc_model.specs.declared.write.Write.{Write}
 use Rattle.cmc_informer.specs.Indexes.{AreKeys}
-use Rattle.cmc_informer.specs.Watching.{is_changed}
+use Rattle.cmc_informer.specs.Watches.{is_changed}
 use Rattle.cmc_collector.specs.declared.entry.Moment.{Moment}
 use Rattle.cmc_collector.specs.Caches.{AreCachesAt, Moves, position_in}
 use Rattle.cmc_collector.specs.Kept.{IsCollectorOf}
-use Rattle.cmc_collector.specs.Moving.{lack_of_delivery, delivery_entry}
-use Rattle.cmc_collector.specs.Playing.{Collecting, on}
+use Rattle.cmc_collector.specs.Moves.{lack_of_delivery, delivery_entry}
+use Rattle.cmc_collector.specs.Replays.{Collecting, on}
 use Rattle.cmc_collector.specs.Rows.{has_examine_row}
 use Rattle.cmc_collector.proofs.Reading.{count_is}
 use Rattle.cmc_collector.proofs.Seeing.{delivered_seen, may_tell, place_is, room_in, seen}

@@ -8,8 +8,8 @@ use Rattle.cmc_objects.specs.declared.call.Call.TheVariants as calls
 use Rattle.cmc_model.specs.Replies.{IsReply}
 use Rattle.cmc_collector.specs.declared.entry.CollectEntry.TheVariants as entries
 use Rattle.cmc_collector.specs.declared.examination.Examination.{Examination}
-use Rattle.cmc_collector.specs.Moving.{IsStoreReply, with_entry}
-use Rattle.cmc_collector.specs.Playing.{Collecting, on, owner_key, setting}
+use Rattle.cmc_collector.specs.Moves.{IsStoreReply, with_entry}
+use Rattle.cmc_collector.specs.Replays.{Collecting, on, owner_key, setting}
 use Rattle.cmc_collector.specs.Rows.{examination_under}
 use Rattle.cmc_collector.proofs.Keeping.{look_entry}
 use Rattle.cmc_collector.proofs.Seeing.{answered, calls_fit, current_row, going_in, grown, looked_seen, room_in, seen}

@@ -2,8 +2,8 @@ use Rattle.std.proofs.Common.{◌≡◌, ℤ, refl, rules, subst, arith}
 use Rattle.std.proofs.lemmas.Int.{to_z-of_z}
 use Rattle.std.specs.Int.{w64}
 use Rattle.cmc_collector.specs.declared.entry.CollectEntry.TheVariants as entries
-use Rattle.cmc_collector.specs.Moving.{IsStoreReply, with_entry}
-use Rattle.cmc_collector.specs.Playing.{Collecting, on}
+use Rattle.cmc_collector.specs.Moves.{IsStoreReply, with_entry}
+use Rattle.cmc_collector.specs.Replays.{Collecting, on}
 use Rattle.cmc_collector.proofs.Seeing.{answered, called_seen, calls_fit, grown, room_in, seen}
 use Rattle.cmc_collector.proofs.collection.Collection.make_call.Goals as goal
 

@@ -1,4 +1,4 @@
-use Rattle.cmc_collector.specs.Settling.{IsSettling}
+use Rattle.cmc_collector.specs.Settles.{IsSettling}
 use Rattle.cmc_collector.proofs.collection.Collection.settle.Given as goal
 
 abbrev pub invariant-loop-turn : goal.invariant-loop-turn

@@ -1,7 +1,7 @@
 use Rattle.std.proofs.Common.{ℕ, true, false, refl, ap, subst, ◌-◌, ◌≡◌}
 use Rattle.std.specs.Prelude.{nat_lt}
 use Rattle.cmc_collector.specs.declared.entry.CollectEntry.TheVariants as entries
-use Rattle.cmc_collector.specs.Playing.{given_uids, on}
+use Rattle.cmc_collector.specs.Replays.{given_uids, on}
 use Rattle.cmc_collector.proofs.Seeing.{accepted_is, else_is, tells_list, tells_on, then_is}
 use Rattle.cmc_collector.proofs.collection.Collection.told.Goals as goal
 

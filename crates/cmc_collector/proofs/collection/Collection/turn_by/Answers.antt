@@ -1,4 +1,4 @@
-use Rattle.cmc_collector.specs.Playing.{setting}
+use Rattle.cmc_collector.specs.Replays.{setting}
 use Rattle.cmc_collector.proofs.Turned.{not_done, unmade}
 use Rattle.cmc_collector.proofs.Turning.{turn_full}
 use Rattle.cmc_collector.proofs.collection.Collection.turn_by.Goals as goal

@@ -1,5 +1,5 @@
 use Rattle.std.proofs.Common.{length, reverse, ap, arith}
-use Rattle.cmc_der.specs.Building.{Building}
+use Rattle.cmc_der.specs.Builders.{Building}
 use Rattle.cmc_der.proofs.Sizes.{added_fits}
 use Rattle.cmc_der.proofs.writing.Writer.octets.Goals as goal
 

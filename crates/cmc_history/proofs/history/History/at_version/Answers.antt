@@ -3,7 +3,7 @@ use Rattle.std.proofs.lemmas.Int.{to_z-of_z}
 use Rattle.std.specs.Int.{w64}
 use Rattle.cmc_objects.specs.declared.entry.Entry.{Entry}
 use Rattle.cmc_history.specs.declared.standing.Standing.{Standing}
-use Rattle.cmc_history.specs.Replaying.{replayed}
+use Rattle.cmc_history.specs.Replays.{replayed}
 use Rattle.cmc_history.proofs.Versions.{replayed_object}
 use Rattle.cmc_history.proofs.history.History.at_version.Goals as goal
 

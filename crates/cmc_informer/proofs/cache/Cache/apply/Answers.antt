@@ -1,7 +1,7 @@
 use Rattle.std.proofs.Common.{ap, ◌∙◌}
 use Rattle.cmc_model.specs.Objects.{Objects}
 use Rattle.cmc_informer.specs.Caches.{after_writes}
-use Rattle.cmc_informer.specs.Superseding.{writes_of}
+use Rattle.cmc_informer.specs.Superseded.{writes_of}
 use Rattle.cmc_informer.proofs.cache.Cache.apply.Goals as goal
 
 pub returns-clause-ok : goal.returns-clause-ok

@@ -1,7 +1,7 @@
 use Rattle.std.proofs.Common.{Bor, List, ap, ◌∙◌, ◌||◌}
 use Rattle.cmc_meta.specs.declared.key.Key.{Key}
 use Rattle.cmc_meta.specs.Keys.{key_eq}
-use Rattle.cmc_informer.specs.Superseding.{has_seen}
+use Rattle.cmc_informer.specs.Superseded.{has_seen}
 use Rattle.cmc_informer.proofs.LastWrites.{seen_more}
 use Rattle.cmc_informer.proofs.latest.SeenKeys.add.Goals as goal
 

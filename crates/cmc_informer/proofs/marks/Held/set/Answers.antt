@@ -1,7 +1,7 @@
 use Rattle.std.proofs.Common.{◌≡◌, true, [], refl, subst}
 use Rattle.cmc_informer.specs.declared.marks.Held.{Held}
 use Rattle.cmc_informer.specs.Indexes.{has_place}
-use Rattle.cmc_informer.specs.Marking.{marked}
+use Rattle.cmc_informer.specs.Marks.{marked}
 use Rattle.cmc_informer.proofs.OneMark.{mark_missing}
 use Rattle.cmc_informer.proofs.OneKey.{set_one, set_keeps}
 use Rattle.cmc_informer.proofs.marks.Held.set.Goals as goal

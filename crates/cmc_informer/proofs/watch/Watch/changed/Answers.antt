@@ -1,7 +1,7 @@
 use Rattle.std.proofs.Common.{arith, reverse, ◌∙◌, sym}
 use Rattle.std.proofs.lemmas.List.{length-reverse}
 use Rattle.cmc_informer.specs.Indexes.{mark_in}
-use Rattle.cmc_informer.specs.Watching.{is_changed}
+use Rattle.cmc_informer.specs.Watches.{is_changed}
 use Rattle.cmc_informer.proofs.Changes.{none_changed, same_changed}
 use Rattle.cmc_informer.proofs.Changing.{keys_alike}
 use Rattle.cmc_informer.proofs.OneMark.{no_keys}

@@ -4,7 +4,7 @@ use Rattle.cmc_pass.specs.declared.pass.Act.{Act}
 use Rattle.cmc_rules.specs.Origins.{begun}
 use Rattle.cmc_moves.specs.Prospects.{IsFirstAct}
 use Rattle.cmc_world.specs.Kept.{on}
-use Rattle.cmc_plain.specs.Keeping.{AreCurrent}
+use Rattle.cmc_plain.specs.KeptLooks.{AreCurrent}
 use Rattle.cmc_plain.specs.declared.openings.Opening.{Opening}
 use Rattle.cmc_plain.proofs.KeptOver.{kept_begun, kept_same}
 use Rattle.cmc_plain.proofs.waking.Waking.step_begin.Goals as goal

@@ -1,6 +1,6 @@
 use Rattle.std.proofs.Common.{◌≡◌, List, subst, sym, true}
 use Rattle.cmc_queue.specs.Queues.{has_room, ChangesRow, KeepsRoom, Work}
-use Rattle.cmc_waking.specs.Feeding.{row_begun}
+use Rattle.cmc_waking.specs.Feeds.{row_begun}
 use Rattle.cmc_waking.specs.Queues.{queue_in, HasPlaceAt}
 use Rattle.cmc_waking.proofs.Eight.{from_own, put_others, put_own, queue_here}
 use Rattle.cmc_waking.proofs.queues.Queues.begun.Goals as goal

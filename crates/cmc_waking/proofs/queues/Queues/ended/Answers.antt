@@ -1,7 +1,7 @@
 use Rattle.std.proofs.Common.{◌≡◌, List, subst, sym, true}
 use Rattle.cmc_queue.specs.Queues.{has_room, ChangesRow, KeepsRoom, Work}
-use Rattle.cmc_waking.specs.Feeding.{closed}
-use Rattle.cmc_waking.specs.Parking.{waits_for}
+use Rattle.cmc_waking.specs.Feeds.{closed}
+use Rattle.cmc_waking.specs.Parked.{waits_for}
 use Rattle.cmc_waking.specs.Queues.{queue_in, HasPlaceFor}
 use Rattle.cmc_waking.proofs.Eight.{from_own, put_others, put_own, queue_here}
 use Rattle.cmc_waking.proofs.queues.Queues.ended.Goals as goal

@@ -1,7 +1,7 @@
 use Rattle.std.proofs.Common.{◌≡◌, ◌+◌, List, subst, sym, true}
 use Rattle.cmc_queue.specs.Queues.{fresh_count, has_room, has_room_to_find, row_of, ChangesRow, KeepsRoom, Work}
 use Rattle.cmc_queue.specs.Rows.{is_fresh}
-use Rattle.cmc_waking.specs.Feeding.{found_busy}
+use Rattle.cmc_waking.specs.Feeds.{found_busy}
 use Rattle.cmc_waking.specs.Queues.{queue_in}
 use Rattle.cmc_waking.proofs.Eight.{from_own, put_others, put_own, queue_here}
 use Rattle.cmc_waking.proofs.queues.Queues.found_busy.Goals as goal

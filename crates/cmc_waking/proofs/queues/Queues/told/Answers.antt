@@ -2,7 +2,7 @@ use Rattle.std.proofs.Common.{◌≡◌, List, subst, sym}
 use Rattle.cmc_meta.specs.declared.key.Key.{Key}
 use Rattle.cmc_caches.specs.Affected.{is_among}
 use Rattle.cmc_queue.specs.Queues.{row_of, Work}
-use Rattle.cmc_waking.specs.Feeding.{row_delivered}
+use Rattle.cmc_waking.specs.Feeds.{row_delivered}
 use Rattle.cmc_waking.specs.Queues.{queue_in, HasRooms}
 use Rattle.cmc_waking.proofs.Eight.{from_own, put_others, put_own, queue_here}
 use Rattle.cmc_waking.proofs.queues.Queues.told.Goals as goal

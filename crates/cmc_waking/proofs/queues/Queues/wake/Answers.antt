@@ -3,7 +3,7 @@ use Rattle.std.proofs.lemmas.Result.{on_ok_weaker}
 use Rattle.cmc_meta.specs.declared.key.Key.{Key}
 use Rattle.cmc_caches.specs.Affected.{is_among}
 use Rattle.cmc_queue.specs.Queues.{row_of, Work}
-use Rattle.cmc_waking.specs.Feeding.{added_if}
+use Rattle.cmc_waking.specs.Feeds.{added_if}
 use Rattle.cmc_waking.specs.Queues.{WakesSome}
 use Rattle.cmc_waking.proofs.Eight.{put_others, put_own, queue_here}
 use Rattle.cmc_waking.proofs.queues.Queues.wake.Goals as goal

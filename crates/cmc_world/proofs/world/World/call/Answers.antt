@@ -13,9 +13,9 @@ use Rattle.cmc_rules.specs.Causes.{MayCall}
 use Rattle.cmc_held.specs.Open.{pass_at}
 use Rattle.cmc_held.specs.Remembered.{past_at}
 use Rattle.cmc_held.specs.RoleStates.{role_state_of}
-use Rattle.cmc_world.specs.Going.{IsCalling}
+use Rattle.cmc_world.specs.Advances.{IsCalling}
 use Rattle.cmc_world.specs.Kept.{Seen, on}
-use Rattle.cmc_world.specs.Noting.{logged, own_write_counted, noted}
+use Rattle.cmc_world.specs.Notes.{logged, own_write_counted, noted}
 use Rattle.cmc_world.proofs.Calls.{kept_call, calls_fit, counts_fit, log_fits}
 use Rattle.cmc_world.proofs.Spare.{kept_spare}
 use Rattle.cmc_world.proofs.world.World.call.Goals as goal

@@ -2,7 +2,7 @@ use Rattle.std.proofs.Common.{◌≡◌, ◌∙◌, ◌<◌, List, ap, sym, subs
 use Rattle.std.specs.Prelude.{if◌then◌else◌}
 use Rattle.cmc_model.specs.Histories.{role_eq}
 use Rattle.cmc_rules.specs.Legality.{IsDelivery}
-use Rattle.cmc_rules.specs.Scripting.{held}
+use Rattle.cmc_rules.specs.Scripts.{held}
 use Rattle.cmc_held.specs.declared.role_states.RoleState.{RoleState}
 use Rattle.cmc_held.specs.RoleStates.{role_state_of}
 use Rattle.cmc_world.specs.Kept.{Seen, setting_of, on}

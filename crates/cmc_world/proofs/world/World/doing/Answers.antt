@@ -3,8 +3,8 @@ use Rattle.cmc_pass.specs.declared.pass.Desk.{Desk}
 use Rattle.cmc_rules.specs.Acts.{act, call_after}
 use Rattle.cmc_rules.specs.Desks.{desk}
 use Rattle.cmc_rules.specs.Passes.{open_pass}
-use Rattle.cmc_safety.specs.Acting.{MayAct}
-use Rattle.cmc_moves.specs.Acting.{IsDoingBy}
+use Rattle.cmc_safety.specs.MayAct.{MayAct}
+use Rattle.cmc_moves.specs.PassActions.{IsDoingBy}
 use Rattle.cmc_world.specs.Kept.{Seen, first_desk, setting_of, on}
 use Rattle.cmc_world.proofs.Said.{run_of}
 use Rattle.cmc_world.proofs.NextSteps.{desk_is, doing_by_any, may_on, next_anyway, next_on, doing_on}

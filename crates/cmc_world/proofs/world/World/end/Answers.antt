@@ -3,7 +3,7 @@ use Rattle.cmc_rules.specs.Passes.{open_pass}
 use Rattle.cmc_rules.specs.Causes.{MayEnd}
 use Rattle.cmc_held.specs.Open.{pass_at}
 use Rattle.cmc_held.specs.Remembered.{past_at}
-use Rattle.cmc_world.specs.Going.{IsClosing}
+use Rattle.cmc_world.specs.Advances.{IsClosing}
 use Rattle.cmc_world.specs.Kept.{Seen, on}
 use Rattle.cmc_world.proofs.Calls.{kept_end}
 use Rattle.cmc_world.proofs.world.World.end.Goals as goal

@@ -1,10 +1,10 @@
 use Rattle.std.proofs.Common.{sym, subst, rules, w64, ◌∙◌}
 use Rattle.std.proofs.lemmas.Int.{to_z-of_z}
 use Rattle.std.specs.Prelude.{◌↔◌, IsTrue, IfOk}
-use Rattle.cmc_rules.specs.Resting.{IsIdle}
+use Rattle.cmc_rules.specs.Rest.{IsIdle}
 use Rattle.cmc_rules.specs.Desks.{desk}
 use Rattle.cmc_model.specs.Histories.{moment}
-use Rattle.cmc_safety.specs.Acting.{MayAct}
+use Rattle.cmc_safety.specs.MayAct.{MayAct}
 use Rattle.cmc_world.specs.Kept.{setting_of, Seen, on}
 use Rattle.cmc_world.proofs.Idling.{idle_by, on_first_desk}
 use Rattle.cmc_world.proofs.world.World.is_idle.Goals as goal

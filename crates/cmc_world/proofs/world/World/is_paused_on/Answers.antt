@@ -2,7 +2,7 @@ use Rattle.std.proofs.Common.{sym, subst}
 use Rattle.cmc_rules.specs.Desks.{desk}
 use Rattle.cmc_model.specs.Histories.{moment}
 use Rattle.cmc_pass.specs.declared.pass.Views.{Views}
-use Rattle.cmc_safety.specs.Acting.{MayAct}
+use Rattle.cmc_safety.specs.MayAct.{MayAct}
 use Rattle.cmc_world.specs.Kept.{setting_of}
 use Rattle.cmc_world.proofs.Idling.{paused_due}
 use Rattle.cmc_world.proofs.world.World.is_paused_on.Goals as goal

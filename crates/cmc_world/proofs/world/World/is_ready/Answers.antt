@@ -1,7 +1,7 @@
 use Rattle.std.proofs.Common.{Some, sym, subst}
 use Rattle.std.specs.Prelude.{◌↔◌, IsTrue, IfOk}
 use Rattle.cmc_objects.specs.declared.entry.Step.{Step}
-use Rattle.cmc_rules.specs.Following.{IsReady}
+use Rattle.cmc_rules.specs.UserSteps.{IsReady}
 use Rattle.cmc_world.specs.Kept.{setting_of}
 use Rattle.cmc_world.proofs.world.World.is_ready.Goals as goal
 

@@ -2,9 +2,9 @@ use Rattle.std.proofs.Common.{subst}
 use Rattle.cmc_rules.specs.Rights.{KeepsRights}
 use Rattle.cmc_rules.specs.Safety.{IsSafe}
 use Rattle.cmc_rules.specs.Runs.{IsRun}
-use Rattle.cmc_safety.specs.Acting.{IsNeverInvalid}
-use Rattle.cmc_safety.specs.Completing.{CompletesIssuing}
-use Rattle.cmc_safety.specs.Standing.{KeepsInvariants}
+use Rattle.cmc_safety.specs.MayAct.{IsNeverInvalid}
+use Rattle.cmc_safety.specs.Completion.{CompletesIssuing}
+use Rattle.cmc_safety.specs.Invariants.{KeepsInvariants}
 use Rattle.cmc_safety.proofs.Barred.{never_invalid}
 use Rattle.cmc_safety.proofs.Completing.{completes}
 use Rattle.cmc_safety.proofs.Rights.{keeps_rights}

@@ -2,7 +2,7 @@ use Rattle.std.proofs.Common.{◌≡◌, ◌∙◌, sym, subst, Some}
 use Rattle.cmc_rules.specs.Passes.{open_pass}
 use Rattle.cmc_moves.specs.declared.doing.Judged.TheVariants.{Answer, Does}
 use Rattle.cmc_moves.specs.declared.moves.Stepped.TheVariants.{Spent}
-use Rattle.cmc_moves.specs.Acting.{IsGoingOn}
+use Rattle.cmc_moves.specs.PassActions.{IsGoingOn}
 use Rattle.cmc_world.specs.Kept.{Seen, setting_of, on}
 use Rattle.cmc_world.proofs.NextSteps.{does_going, spent_going}
 use Rattle.cmc_moves.proofs.Decisions.{doing_decided, waits_not}

@@ -1,7 +1,7 @@
 use Rattle.std.proofs.Common.{◌≡◌, ◌∙◌, ap, sym, subst, IfOk}
 use Rattle.std.specs.Option.{option_copied}
 use Rattle.cmc_rules.specs.Origins.{origin_at}
-use Rattle.cmc_moves.specs.Acting.{IsTaken, IsTaking}
+use Rattle.cmc_moves.specs.PassActions.{IsTaken, IsTaking}
 use Rattle.cmc_moves.specs.Answers.{outdated}
 use Rattle.cmc_world.specs.Kept.{Seen, setting_of, on}
 use Rattle.cmc_moves.proofs.Decisions.{present_taken}

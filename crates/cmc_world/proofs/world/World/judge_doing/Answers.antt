@@ -3,7 +3,7 @@ use Rattle.cmc_rules.specs.Acts.{act, call_after}
 use Rattle.cmc_rules.specs.Desks.{desk}
 use Rattle.cmc_rules.specs.Passes.{open_pass}
 use Rattle.cmc_moves.specs.declared.doing.Judged.TheVariants.{Does}
-use Rattle.cmc_moves.specs.Acting.{IsDoingBy, IsGoingOn}
+use Rattle.cmc_moves.specs.PassActions.{IsDoingBy, IsGoingOn}
 use Rattle.cmc_world.specs.Kept.{Seen, setting_of, on}
 use Rattle.cmc_world.proofs.NextSteps.{does_going}
 use Rattle.cmc_world.proofs.world.World.judge_doing.Goals as goal

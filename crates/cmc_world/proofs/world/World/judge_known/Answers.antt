@@ -1,7 +1,7 @@
 use Rattle.std.proofs.Common.{◌≡◌, length, ap, subst, ◌∙◌}
 use Rattle.cmc_model.specs.Replies.{State}
 use Rattle.cmc_model.specs.Histories.{accepted, moment, state}
-use Rattle.cmc_rules.specs.Following.{effect_of, effect_on}
+use Rattle.cmc_rules.specs.UserSteps.{effect_of, effect_on}
 use Rattle.cmc_moves.specs.Answers.{entries_of}
 use Rattle.cmc_world.specs.Kept.{setting_of, Seen, on}
 use Rattle.cmc_world.proofs.Waiting.{step_judged}

@@ -2,7 +2,7 @@ use Rattle.std.proofs.Common.{◌≡◌, ◌∙◌, ap, Bool, sym, subst, rules,
 use Rattle.std.proofs.lemmas.Int.{to_z-of_z}
 use Rattle.std.specs.Option.{option_copied}
 use Rattle.std.specs.Prelude.{◌↔◌, IsTrue}
-use Rattle.cmc_rules.specs.Viewing.{views}
+use Rattle.cmc_rules.specs.Views.{views}
 use Rattle.cmc_held.specs.Remembered.{past_or_new}
 use Rattle.cmc_world.specs.Kept.{Seen, on}
 use Rattle.cmc_moves.specs.Answers.{AnswersBegin}

@@ -10,7 +10,7 @@ use Rattle.cmc_moves.specs.Answers as spec
 use Rattle.cmc_world.specs.Kept.{Seen, setting_of, on}
 use Rattle.std.specs.Prelude.{if◌then◌else◌}
 use Rattle.cmc_model.specs.Histories.{role_eq}
-use Rattle.cmc_rules.specs.Viewing.{Caches}
+use Rattle.cmc_rules.specs.Views.{Caches}
 use Rattle.cmc_caches.specs.Told.{caches_of}
 use Rattle.cmc_world.proofs.Stepping.{incarnation_fits, start_kept, start_low}
 use Rattle.cmc_world.proofs.world.World.make_start.Goals as goal

@@ -1,6 +1,6 @@
 use Rattle.std.proofs.Common.{◌≡◌, ◌≤◌, ◌+◌, sym, subst, length, arith, rules, w64, to_z, of_z}
 use Rattle.std.proofs.lemmas.Int.{to_z-of_z}
-use Rattle.cmc_rules.specs.Viewing.{views}
+use Rattle.cmc_rules.specs.Views.{views}
 use Rattle.cmc_world.specs.Kept.{Seen, on}
 use Rattle.cmc_world.specs.Prepared.{IsPrepared}
 use Rattle.cmc_world.proofs.Begins.{prepared, number_fits}

@@ -5,8 +5,8 @@ use Rattle.cmc_pass.specs.declared.pass.Desk.{Desk}
 use Rattle.cmc_rules.specs.Acts.{act}
 use Rattle.cmc_rules.specs.Desks.{desk}
 use Rattle.cmc_model.specs.Histories.{moment}
-use Rattle.cmc_rules.specs.Viewing.{views}
-use Rattle.cmc_safety.specs.Acting.{MayAct}
+use Rattle.cmc_rules.specs.Views.{views}
+use Rattle.cmc_safety.specs.MayAct.{MayAct}
 use Rattle.cmc_moves.specs.Prospects.{IsProspect}
 use Rattle.cmc_world.specs.Kept.{setting_of, first_desk, Seen, on}
 use Rattle.cmc_world.proofs.NextSteps.{desk_is}

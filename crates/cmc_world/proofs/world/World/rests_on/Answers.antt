@@ -2,7 +2,7 @@ use Rattle.std.proofs.Common.{sym, subst, true}
 use Rattle.cmc_rules.specs.Desks.{desk}
 use Rattle.cmc_model.specs.Histories.{moment}
 use Rattle.cmc_pass.specs.declared.pass.Views.{Views}
-use Rattle.cmc_safety.specs.Acting.{MayAct}
+use Rattle.cmc_safety.specs.MayAct.{MayAct}
 use Rattle.cmc_world.specs.Kept.{setting_of}
 use Rattle.cmc_world.proofs.Idling.{rests_on_by, rests_when_told}
 use Rattle.cmc_world.proofs.world.World.rests_on.Goals as goal

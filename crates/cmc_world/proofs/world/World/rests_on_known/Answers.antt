@@ -1,6 +1,6 @@
 use Rattle.std.proofs.Common.{◌≡◌, subst}
 use Rattle.cmc_model.specs.declared.write.Write.{Write}
-use Rattle.cmc_rules.specs.Resting.{RestsOn}
+use Rattle.cmc_rules.specs.Rest.{RestsOn}
 use Rattle.cmc_model.specs.Writes.{writes}
 use Rattle.cmc_world.specs.Kept.{setting_of, Seen, on}
 use Rattle.cmc_world.proofs.Waiting.{found_in_log}

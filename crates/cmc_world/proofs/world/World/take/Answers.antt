@@ -1,7 +1,7 @@
 use Rattle.std.proofs.Common.{◌≡◌, ◌∙◌, ◌<◌, ap, sym, subst, length, Some}
 use Rattle.std.specs.Prelude.{◌==◌, if◌then◌else◌, option_map}
 use Rattle.cmc_objects.specs.declared.orders.Order.{Order}
-use Rattle.cmc_pass.specs.Giving.{order_of, value_of}
+use Rattle.cmc_pass.specs.GivenValues.{order_of, value_of}
 use Rattle.cmc_pass.specs.declared.value.Value.{Value}
 use Rattle.cmc_rules.specs.declared.progress.Stage.TheVariants.{Given}
 use Rattle.cmc_rules.specs.Passes.{open_pass, with_stage}

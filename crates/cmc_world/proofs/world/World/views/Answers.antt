@@ -1,7 +1,7 @@
 use Rattle.std.proofs.Common.{◌≡◌, subst}
 use Rattle.std.proofs.lemmas.Result.{IfOk-weaker}
 use Rattle.std.specs.Prelude.{IfOk}
-use Rattle.cmc_rules.specs.Viewing.{views}
+use Rattle.cmc_rules.specs.Views.{views}
 use Rattle.cmc_world.specs.Kept.{Seen, on}
 use Rattle.cmc_world.proofs.Judging.{saw}
 use Rattle.cmc_world.proofs.world.World.views.Goals as goal
