@@ -24,7 +24,7 @@ use Rattle.cmc_summary.specs.declared.summary.Summary.{Summary}
 use Rattle.cmc_summary.specs.declared.summary.Waiting.{Waiting}
 use Rattle.cmc_summary.specs.declared.summary.WaitName.{WaitName}
 use Rattle.cmc_summary_form.specs.SummaryForm.{HasNames, NamesCertificate, HasSummaryForm}
-use Rattle.cmc_plain.specs.Waits.{wait_at, with_wait, waits_among, summary_at}
+use Rattle.cmc_waits.specs.Waits.{wait_at, with_wait, waits_among, summary_at}
 use Rattle.cmc_audit.specs.Verdicts.{counted}
 use Rattle.cmc_line_reading.specs.Histories.{counts_of}
 use Rattle.cmc_audit_laws.specs.Printed.{IsPrintableSummary, IsTypedSummary}

@@ -11,9 +11,9 @@ use Rattle.cmc_rules.specs.Runs.{IsRun}
 use Rattle.cmc_setup.specs.Setups.{Setup, IsSetup}
 use Rattle.cmc_safety.specs.Formed.{IsFormed}
 use Rattle.cmc_safety.proofs.Course.{AreSound}
-use Rattle.cmc_world.proofs.Starting.{formed}
+use Rattle.cmc_kernel.proofs.Starting.{formed}
 use Rattle.cmc_summary.specs.declared.summary.Summary.{Summary}
-use Rattle.cmc_plain.specs.Waits.{summary_at}
+use Rattle.cmc_waits.specs.Waits.{summary_at}
 use Rattle.cmc_report.specs.Text.{joined, history_lines}
 use Rattle.cmc_lines.specs.declared.line.PrintedLine.{PrintedLine}
 use Rattle.cmc_lines.specs.declared.printed.Printed.{Printed}

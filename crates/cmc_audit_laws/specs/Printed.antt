@@ -20,7 +20,7 @@ use Rattle.cmc_line_reading.specs.declared.history.BadHistory.{BadHistory}
 use Rattle.cmc_line_reading.specs.declared.history.BadHistory.TheVariants as bad
 use Rattle.cmc_lines.specs.declared.printed.Printed.{Printed}
 use Rattle.cmc_rules.specs.Runs.{IsRun}
-use Rattle.cmc_plain.specs.Waits.{summary_at}
+use Rattle.cmc_waits.specs.Waits.{summary_at}
 use Rattle.cmc_audit_ledger.specs.Ledgers.{setting_of}
 use Rattle.cmc_audit_clauses.specs.declared.clause.Verdict.{Verdict}
 use Rattle.cmc_audit_clauses.specs.declared.clause.Verdict.TheVariants.{Yes}

@@ -5,8 +5,8 @@ ghost use Rattle.cmc_audit_laws.specs.AuditedYes.{IsAuditedYes};
 
 use crate::naming::entries_name_their_keys;
 use cmc_history::History;
+use cmc_kernel::Kernel;
 use cmc_setup::Scenario;
-use cmc_world::World;
 
 /// A law: every run is audited yes. Whatever verdict is one on the lines that the history of a run shows, with the right
 /// counts after them, it is yes, with the number of entries. The call changes nothing.
@@ -18,9 +18,9 @@ pub fn each_run_is_audited_yes(scenario: &Scenario, history: &History)
 }
 
 /// A law: every world is audited yes, whichever moves led to it, in one thread or in several. The call changes nothing.
-pub fn each_world_is_audited_yes(world: &World)
-    ensures { IsAuditedYes (setting_of world.now.scenario) world.now.history }
+pub fn each_world_is_audited_yes(kernel: &Kernel)
+    ensures { IsAuditedYes (setting_of kernel.now.scenario) kernel.now.history }
 {
-    world.is_run();
-    each_run_is_audited_yes(world.scenario(), world.history());
+    kernel.is_run();
+    each_run_is_audited_yes(kernel.scenario(), kernel.history());
 }

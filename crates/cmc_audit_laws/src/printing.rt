@@ -8,8 +8,8 @@ ghost use Rattle.cmc_scenario_print.specs.ScenarioTree.{scenario_tree};
 ghost use Rattle.cmc_scenario.specs.Loads.{load_setup};
 ghost use Rattle.cmc_scenario.specs.Scenarios.{scenario_at};
 ghost use Rattle.cmc_report.specs.Text.{history_lines, joined};
-ghost use Rattle.cmc_plain.specs.Waits.{summary_at};
-ghost use Rattle.cmc_world.specs.Kept.{on};
+ghost use Rattle.cmc_waits.specs.Waits.{summary_at};
+ghost use Rattle.cmc_kernel.specs.Kept.{on};
 ghost use Rattle.cmc_audit_laws.specs.Printed.{IsPrintedOf, IsRunPrinted, IsTextAuditedYes, IsValueOf};
 
 use crate::counted::entries_are_counted;
@@ -17,10 +17,10 @@ use crate::naming::entries_name_their_keys;
 use crate::summing::summary_is_typed;
 use crate::typed::entries_are_typed;
 use cmc_history::History;
+use cmc_kernel::Kernel;
 use cmc_report::Lines;
 use cmc_setup::Scenario;
 use cmc_summary::Summary;
-use cmc_world::World;
 
 /// A law: the value that a scenario was read of, with no float in it, is printed as a text that is read as it.
 #[tactic(auto, using(crate::proofs::ValuesRead::value_of))]
@@ -71,9 +71,9 @@ pub fn what_is_printed_is_audited_yes(
 
 /// A law: what is printed of a world is audited yes, whichever moves led to it, in one thread or in several. The call changes
 /// nothing.
-pub fn what_is_printed_of_a_world_is_audited_yes(world: &World, summary: &Summary, lines: &Lines)
-    ensures { (value : Data) → IsValueOf value world.now.scenario → summary.now ≡ on summary_at world.now → lines.now ≡ history_lines value world.now.history summary.now → IsTextAuditedYes (joined lines.now) (length world.now.history) }
+pub fn what_is_printed_of_a_world_is_audited_yes(kernel: &Kernel, summary: &Summary, lines: &Lines)
+    ensures { (value : Data) → IsValueOf value kernel.now.scenario → summary.now ≡ on summary_at kernel.now → lines.now ≡ history_lines value kernel.now.history summary.now → IsTextAuditedYes (joined lines.now) (length kernel.now.history) }
 {
-    world.is_run();
-    what_is_printed_is_audited_yes(world.scenario(), world.history(), summary, lines);
+    kernel.is_run();
+    what_is_printed_is_audited_yes(kernel.scenario(), kernel.history(), summary, lines);
 }

@@ -13,7 +13,7 @@ use Rattle.cmc_rules.specs.Positions.{is_informer}
 use Rattle.cmc_rules.specs.Scripts.{scripted, step_at, held, held_by}
 use Rattle.cmc_rules.specs.UserSteps.{IsReady}
 use Rattle.cmc_rules.specs.Rest.{IsAtRest}
-use Rattle.cmc_plain.specs.Plain.{HasNoScript}
+use Rattle.cmc_kernel.specs.Plain.{HasNoScript}
 use Rattle.cmc_run_laws.specs.Calm.{lets_be, is_calm}
 
 abbrev LetsBe : Step → Type 0

@@ -9,7 +9,7 @@ use Rattle.cmc_objects.specs.declared.entry.Who.TheVariants.{User, Pass}
 use Rattle.cmc_objects.specs.declared.entry.Entry.{Entry}
 use Rattle.cmc_objects.specs.declared.entry.Entry.TheVariants.{Call as Called, Deliver, List as Listed, Begin, Start, Tick}
 use Rattle.cmc_model.specs.Histories.{role_eq}
-use Rattle.cmc_plain.specs.Waits.{all_roles}
+use Rattle.cmc_waits.specs.Waits.{all_roles}
 use Rattle.cmc_run_laws.specs.Begins.{HasReasonsEnough, begins_on, count_of, is_reason_for}
 use Rattle.cmc_run_laws.specs.Lengths.{BeginsOn, HasFewPasses, is_begin, is_reason}
 use Rattle.cmc_run_laws.proofs.Counting.{counted_by_parts, counted_less, each_goes, is_in_part, of_all}

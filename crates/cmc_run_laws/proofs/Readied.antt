@@ -43,11 +43,11 @@ use Rattle.cmc_rules.specs.Rest.{IsAtRest, IsIdle}
 use Rattle.cmc_rules.specs.Runs.{IsRun}
 use Rattle.cmc_rules.specs.Trigger.{is_issuing}
 use Rattle.cmc_rules.specs.Views.{certificate_at, next_of, present_views, request_at, request_in, requests_of, target_at, views_in, views_of}
-use Rattle.cmc_plain.specs.Waits.{is_stopped, is_unanswered, wait_of_request}
-use Rattle.cmc_plain.proofs.EachNamed.{still}
-use Rattle.cmc_plain.proofs.EachWait.{IsStill, issuer_rests, issuing_rests, keys_rest, owned_stands, request_waits_on, requests_rest}
-use Rattle.cmc_plain.proofs.NextApart.{next_apart}
-use Rattle.cmc_plain.proofs.Stuck.{HasNextKey, HasNextRequest, has_key, has_request}
+use Rattle.cmc_waits.specs.Waits.{is_stopped, is_unanswered, wait_of_request}
+use Rattle.cmc_waits.proofs.EachNamed.{still}
+use Rattle.cmc_waits.proofs.EachWait.{IsStill, issuer_rests, issuing_rests, keys_rest, owned_stands, request_waits_on, requests_rest}
+use Rattle.cmc_waits.proofs.NextApart.{next_apart}
+use Rattle.cmc_waits.proofs.Stuck.{HasNextKey, HasNextRequest, has_key, has_request}
 use Rattle.cmc_run_laws.specs.Settled.{CanBeIssued, IsReadyOrUnderWay, keeps_unfit}
 use Rattle.cmc_run_laws.proofs.Settling.{settled, stands}
 

@@ -13,8 +13,8 @@ use Rattle.cmc_objects.specs.declared.entry.Entry.TheVariants.{Call as Called, D
 use Rattle.cmc_objects.specs.Roles.{role_rank}
 use Rattle.cmc_model.specs.Histories.{role_eq}
 use Rattle.cmc_rules.specs.Safety.{HasEntry}
-use Rattle.cmc_world.proofs.AtRest.{key_eq-refl, same_key}
-use Rattle.cmc_world.proofs.RoleStates.{same_role}
+use Rattle.cmc_kernel.proofs.SameKeys.{key_eq-refl, same_key}
+use Rattle.cmc_kernel.proofs.RoleStates.{same_role}
 use Rattle.cmc_run_laws.specs.Begins.{BeginsForSomething, HasReasonsEnough, IsNewBegin, IsReason, begins_on, count_of, is_reason_for}
 
 -- ---- counts

@@ -58,11 +58,11 @@ use Rattle.cmc_store_laws.specs.Names.{AreNamesFree}
 use Rattle.cmc_moves.specs.Answers.{GrowsBy, next_effect, value_entry}
 use Rattle.cmc_moves.specs.declared.moves.Move.{Move}
 use Rattle.cmc_moves.specs.declared.moves.Move.TheVariants as moves
-use Rattle.cmc_world.proofs.Newest.{views_newest}
-use Rattle.cmc_plain.specs.Plain.{HasNoScript}
-use Rattle.cmc_plain.specs.Histories.{IsOfCourse, IsPlainStep, LeadsPlainly, IsPlain}
-use Rattle.cmc_plain.proofs.Determined.{is_run}
-use Rattle.cmc_plain.proofs.Finishing.{closed, told}
+use Rattle.cmc_kernel.proofs.Newest.{views_newest}
+use Rattle.cmc_kernel.specs.Plain.{HasNoScript}
+use Rattle.cmc_world.specs.Histories.{IsOfCourse, IsPlainStep, LeadsPlainly, IsPlain}
+use Rattle.cmc_world.proofs.Determined.{is_run}
+use Rattle.cmc_waits.proofs.Finishing.{closed, told}
 use Rattle.cmc_run_laws.specs.Calm.{is_before_writes, is_calm, RunsAlone, IsCalmReply, HasCalmReplies}
 use Rattle.cmc_run_laws.proofs.CalmNames.{IsUnnamed, first_is_unnamed, following_is_unnamed}
 use Rattle.cmc_run_laws.proofs.CalmReplies.{AreFreeNames, IsNewName, calm_read, calm_status, calm_write}

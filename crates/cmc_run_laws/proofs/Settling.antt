@@ -17,10 +17,10 @@ use Rattle.cmc_rules.specs.Rest.{IsAtRest}
 use Rattle.cmc_rules.specs.Runs.{IsRun}
 use Rattle.cmc_rules.specs.Trigger.{is_issuing}
 use Rattle.cmc_rules.specs.Views.{certificate_in, certificate_at, target_at, requests_of, views_of, views_in, present_views}
-use Rattle.cmc_plain.specs.Waits.{is_stopped, wait_of, wait_of_seen, wait_in}
-use Rattle.cmc_plain.proofs.EachNamed.{each_named, still}
-use Rattle.cmc_plain.proofs.EachWait.{trigger_rests, readiness_rests}
-use Rattle.cmc_plain.proofs.Stuck.{waits_to_try}
+use Rattle.cmc_waits.specs.Waits.{is_stopped, wait_of, wait_of_seen, wait_in}
+use Rattle.cmc_waits.proofs.EachNamed.{each_named, still}
+use Rattle.cmc_waits.proofs.EachWait.{trigger_rests, readiness_rests}
+use Rattle.cmc_waits.proofs.Stuck.{waits_to_try}
 use Rattle.cmc_run_laws.specs.Settled.{IsReadyOrUnderWay}
 
 is_certificate : (o : Option Object) (c : Certificate) → option_and_then certificate_in o ≡ Some c → o ≡ Some (Cert c)

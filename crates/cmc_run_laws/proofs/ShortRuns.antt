@@ -23,8 +23,8 @@ use Rattle.cmc_rules.specs.UserSteps.{Follows, owed}
 use Rattle.cmc_rules.specs.Legality.{IsLegal, IsLegalEntry}
 use Rattle.cmc_rules.specs.Runs.{IsRun}
 use Rattle.cmc_rules.specs.Scripts.{scripted}
-use Rattle.cmc_world.proofs.AtRest.{key_eq-refl, same_key}
-use Rattle.cmc_plain.specs.Waits.{all_roles}
+use Rattle.cmc_kernel.proofs.SameKeys.{key_eq-refl, same_key}
+use Rattle.cmc_waits.specs.Waits.{all_roles}
 use Rattle.cmc_run_laws.specs.Begins.{count_of, is_accepted_or_failed}
 use Rattle.cmc_run_laws.specs.Lengths.{BeginsOn, Each, HasBoundedLength, HasFewPasses, HasShortPasses, HasFewDeliveries, all_kinds, is_begin, is_effect, is_failed, is_of_pass, is_reason, is_start, is_delivery, most_passes, most_reasons, most_deliveries}
 use Rattle.cmc_run_laws.proofs.Counting.{counted_less}

@@ -56,8 +56,8 @@ use Rattle.cmc_safety.proofs.Course.{within_act}
 use Rattle.cmc_safety.proofs.InProgress.{caller_of}
 use Rattle.cmc_safety.proofs.NextCalls.{IsCallAt}
 use Rattle.cmc_moves.proofs.Sounds.{each_sound}
-use Rattle.cmc_world.proofs.AtRest.{key_eq-refl, same_key}
-use Rattle.cmc_world.proofs.RoleStates.{same_role}
+use Rattle.cmc_kernel.proofs.SameKeys.{key_eq-refl, same_key}
+use Rattle.cmc_kernel.proofs.RoleStates.{same_role}
 use Rattle.cmc_run_laws.specs.Begins.{IsNewBegin, IsReason, is_accepted_or_failed}
 use Rattle.cmc_run_laws.proofs.CalmReplies.{AreFreeNames}
 use Rattle.cmc_run_laws.proofs.Refusals.{IsUntold, refused_untold}

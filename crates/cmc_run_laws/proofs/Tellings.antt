@@ -16,9 +16,9 @@ use Rattle.cmc_model.specs.Writes.{kind_eq}
 use Rattle.cmc_rules.specs.Positions.{is_informer, position}
 use Rattle.cmc_rules.specs.Legality.{IsLegal}
 use Rattle.cmc_rules.proofs.Positions.{positions_low}
-use Rattle.cmc_world.proofs.AtRest.{same_kind}
-use Rattle.cmc_world.proofs.RoleStates.{same_role}
-use Rattle.cmc_plain.specs.Waits.{all_roles}
+use Rattle.cmc_kernel.proofs.SameKeys.{same_kind}
+use Rattle.cmc_kernel.proofs.RoleStates.{same_role}
+use Rattle.cmc_waits.specs.Waits.{all_roles}
 use Rattle.cmc_run_laws.specs.Begins.{count_of}
 use Rattle.cmc_run_laws.specs.Lengths.{HasFewDeliveries, all_kinds, is_start, is_delivery}
 use Rattle.cmc_run_laws.proofs.Counting.{counted_by_parts, is_in_part, of_all}

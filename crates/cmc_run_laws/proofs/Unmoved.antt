@@ -26,9 +26,9 @@ use Rattle.cmc_rules.specs.Positions.{position, positions, position_of, cache}
 use Rattle.cmc_rules.specs.Views.{caches, views}
 use Rattle.cmc_rules.proofs.Seen.{seen_is_version}
 use Rattle.cmc_rules.proofs.Versions.{lawful, version_keyed}
-use Rattle.cmc_world.proofs.AtRest.{key_eq-refl, same_key, same_kind}
-use Rattle.cmc_world.proofs.OneKind.{object_at-of_kind, same_at}
-use Rattle.cmc_plain.proofs.Newer.{kind_eq-same}
+use Rattle.cmc_kernel.proofs.SameKeys.{key_eq-refl, same_key, same_kind}
+use Rattle.cmc_kernel.proofs.OneKind.{object_at-of_kind, same_at}
+use Rattle.cmc_waits.proofs.Newer.{kind_eq-same}
 use Rattle.cmc_run_laws.proofs.CalmReplies.{StandsUnder}
 use Rattle.cmc_run_laws.proofs.CalmViews.{AreSo, seen_so}
 

@@ -11,7 +11,7 @@ use Rattle.cmc_objects.specs.declared.entry.Entry.{Entry}
 use Rattle.cmc_objects.specs.declared.entry.Entry.TheVariants.{Call as Called, Deliver, List as Listed, Begin, Ask, Made, Signed, Answered, Judged, End, Stop, Start, Tick}
 use Rattle.cmc_model.specs.Histories.{Setting, accepted}
 use Rattle.cmc_rules.specs.Scripts.{scripted}
-use Rattle.cmc_plain.specs.Waits.{all_roles}
+use Rattle.cmc_waits.specs.Waits.{all_roles}
 use Rattle.cmc_run_laws.specs.Begins.{count_of, is_accepted_or_failed}
 
 -- each item of the list is so

@@ -17,7 +17,7 @@ use Rattle.cmc_rules.specs.Issuer.{is_request_waiting}
 use Rattle.cmc_rules.specs.Issuance.{is_kept_for_keys}
 use Rattle.cmc_rules.specs.KeyManager.{target_key}
 use Rattle.cmc_rules.specs.Trigger.{is_issuing, is_backing_off}
-use Rattle.cmc_plain.specs.Waits.{wait_of}
+use Rattle.cmc_waits.specs.Waits.{wait_of}
 
 -- it is not being issued, and its back-off has not ended
 pub record IsBackingOff (now : ℤ) (c : Certificate) : Type 0 where

@@ -10,7 +10,7 @@ ghost use Rattle.cmc_model.specs.Histories.{Setting, moment, objects};
 ghost use Rattle.cmc_rules.specs.Rest.{IsAtRest};
 ghost use Rattle.cmc_rules.specs.Runs.{IsRun};
 ghost use Rattle.cmc_rules.specs.Views.{certificate_at, present_views};
-ghost use Rattle.cmc_plain.specs.Waits.{is_stopped};
+ghost use Rattle.cmc_waits.specs.Waits.{is_stopped};
 ghost use Rattle.cmc_run_laws.specs.Settled.{CanBeIssued, IsReadyOrUnderWay};
 
 /// A law: at rest each Certificate is settled. Where all is at rest in the history of a run, every role runs and no

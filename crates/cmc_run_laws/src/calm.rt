@@ -10,8 +10,8 @@ ghost use Rattle.cmc_rules.specs.Scripts.{has_held};
 ghost use Rattle.cmc_rules.specs.Views.{present_views, views};
 ghost use Rattle.cmc_rules.specs.declared.progress.OpenPass.{OpenPass};
 ghost use Rattle.cmc_moves.specs.declared.moves.Move.TheVariants.{Begin};
-ghost use Rattle.cmc_plain.specs.Histories.{IsPlain};
-ghost use Rattle.cmc_plain.specs.Plain.{IsChosen};
+ghost use Rattle.cmc_world.specs.Histories.{IsPlain};
+ghost use Rattle.cmc_kernel.specs.Plain.{IsChosen};
 ghost use Rattle.cmc_run_laws.specs.Calm.{is_before_writes, is_calm, HasCalmReplies, RunsAlone};
 
 use cmc_store_laws::generated_names_are_free;

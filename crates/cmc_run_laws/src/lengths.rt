@@ -7,7 +7,7 @@ ghost use Rattle.cmc_safety.specs.Formed.{IsFormed};
 ghost use Rattle.cmc_run_laws.specs.Lengths.{HasBoundedLength, HasFewPasses, HasShortPasses, HasFewDeliveries};
 
 use crate::begins::no_pass_begins_for_nothing;
-use cmc_world::passes_keep_to_their_courses;
+use cmc_kernel::passes_keep_to_their_courses;
 
 /// A law: the length of a run is bounded by its accepted writes, its failed calls and the steps of its script that were
 /// made, whatever the interleaving. Where all passes are on given keys, no more of them begin than there are pairs of a

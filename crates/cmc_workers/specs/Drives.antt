@@ -8,14 +8,14 @@ use Rattle.cmc_rules.specs.Runs.{IsFinished}
 use Rattle.cmc_setup.specs.Setups.{Setup}
 use Rattle.cmc_moves.specs.Answers.{kept_of}
 use Rattle.cmc_moves.specs.Decisions.{BegunPass, begun_of, decides_alone}
-use Rattle.cmc_world.specs.Kept.{Seen, setting_of}
-use Rattle.cmc_plain.specs.Questions.{ask_number, work_of}
-use Rattle.cmc_plain.specs.declared.gate.Point.{Point}
-use Rattle.cmc_plain.specs.declared.gate.Work.TheVariants as works
-use Rattle.cmc_plain.specs.Turns.{CanBeMade, EndsPlainly}
-use Rattle.cmc_plain.specs.Histories.{IsFull}
-use Rattle.cmc_plain.specs.declared.run.Driven.{Driven}
-use Rattle.cmc_plain.specs.declared.run.Driven.TheVariants.{Finished, Spent}
+use Rattle.cmc_kernel.specs.Kept.{Seen, setting_of}
+use Rattle.cmc_world.specs.Questions.{ask_number, work_of}
+use Rattle.cmc_world.specs.declared.gate.Point.{Point}
+use Rattle.cmc_world.specs.declared.gate.Work.TheVariants as works
+use Rattle.cmc_world.specs.Turns.{CanBeMade, EndsPlainly}
+use Rattle.cmc_world.specs.Histories.{IsFull}
+use Rattle.cmc_world.specs.declared.run.Driven.{Driven}
+use Rattle.cmc_world.specs.declared.run.Driven.TheVariants.{Finished, Spent}
 use Rattle.cmc_workers.specs.declared.errands.Errand.{Errand}
 use Rattle.cmc_workers.specs.declared.errands.Task.{Task}
 use Rattle.cmc_workers.specs.declared.errands.Task.TheVariants.{Value, Decision}

@@ -1,9 +1,9 @@
 -- What a look for the next pass comes to.
-use Rattle.cmc_world.specs.Kept.{Seen, on}
-use Rattle.cmc_plain.specs.Searches.{IsWork}
-use Rattle.cmc_plain.specs.declared.openings.Opening.{Opening}
-use Rattle.cmc_workers.specs.declared.shared.Found.{Found}
-use Rattle.cmc_workers.specs.declared.shared.Found.TheVariants.{Work}
+use Rattle.cmc_kernel.specs.Kept.{Seen, on}
+use Rattle.cmc_world.specs.Searches.{IsWork}
+use Rattle.cmc_world.specs.declared.openings.Opening.{Opening}
+use Rattle.cmc_workers.specs.declared.rounds.Found.{Found}
+use Rattle.cmc_workers.specs.declared.rounds.Found.TheVariants.{Work}
 
 -- the pass may begin, and has something to do
 abbrev pub IsWorkOpening : Seen → Opening → Type 0

@@ -1,10 +1,10 @@
 //! What is done for passes outside of the lock, and what comes back.
 ghost use Rattle.std.specs.Prelude.{◌≡◌};
 
+use cmc_kernel::{Begun, Decided};
 use cmc_objects::Order;
 use cmc_pass::Given;
-use cmc_plain::Point;
-use cmc_world::{Begun, Decided};
+use cmc_world::Point;
 
 /// A pass that a thread has begun, and alone goes on with.
 #[derive(Clone, Copy)]

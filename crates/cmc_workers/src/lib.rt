@@ -2,9 +2,10 @@
 #![tactic(auto)]
 
 mod errands;
+mod rounds;
 mod run;
 mod shared;
 mod threads;
 
-pub use cmc_plain::{Driven, Gate, NoGate, Point, Work, drive_plain};
+pub use cmc_world::{Driven, Gate, NoGate, Point, Work, drive_plain};
 pub use run::drive;

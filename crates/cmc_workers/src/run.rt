@@ -1,15 +1,14 @@
 //! Runs by threads, and what they leave by one hand.
-ghost use Rattle.std.specs.Prelude.{◌≡◌, IfOk};
-ghost use Rattle.cmc_plain.specs.Turns.{IsDriven};
+ghost use Rattle.std.specs.Prelude.{◌≡◌, ◌↔◌, ◌<◌, ◌≤◌, ◌⊎◌, ◌/◌, IsTrue, IfOk, length};
+ghost use Rattle.cmc_world.specs.Turns.{IsDriven};
 ghost use Rattle.cmc_workers.specs.Drives.{Drives};
 
 use crate::threads::in_threads;
 use cmc_answers::Signer;
 use cmc_keys::KeyMaker;
-use cmc_plain::{Driven, Gate, Waking, drain, drive_plain};
 use cmc_seed::HashSeed;
 use cmc_setup::Scenario;
-use cmc_world::World;
+use cmc_world::{Driven, Gate, World, drain, drive_plain};
 use std::alloc::{AllocError, Global};
 use std::sync::Wait;
 use std::thread::Threads;
@@ -19,7 +18,9 @@ const SHORT_ROOM: u64 = 10_000;
 
 /// Whether the status of the run would be the same by the plain order, as far as is measured: it takes up to four times the
 /// entries that threads do. Of longer histories nobody asks that.
-fn is_roomy(world: &World) -> bool {
+fn is_roomy(world: &World) -> bool
+    ensures { IsTrue result ↔ ((10000 < world.now.scenario.events) ⊎ (length world.now.history ≤ world.now.scenario.events / 4)) }
+{
     let events = world.scenario().events();
     events > SHORT_ROOM || world.history().len() <= events / 4
 }
@@ -49,7 +50,7 @@ pub fn drive<R: Threads + Wait + Sync, M: KeyMaker, N: Signer, G: Gate>(
     if workers == 0 {
         return drive_plain(alloc, seed, scenario, keys, signer, gate);
     }
-    let begun = Waking::seeded(alloc, seed, scenario.copy()?)?;
+    let begun = World::seeded(alloc, seed, scenario.copy()?)?;
     let left = in_threads(rt, alloc, begun, keys, signer, gate, workers);
     if let Driven::Finished(world) = drain(alloc, left, keys, signer, gate)? {
         if !is_roomy(&world) {

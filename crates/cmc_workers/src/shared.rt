@@ -1,73 +1,33 @@
 //! What lies under the lock, and what a thread does while it holds it.
 //!
 //! Each change is a step of the world, so whatever the threads do, the history is one of a run: the world's type keeps
-//! that. A pass begins only where its role has something to do, and roles take turns in the order of an issuance: once a role
-//! has begun a pass it goes on with its further keys, and then the next role has its turn. Before it is looked whether a role
-//! has something to do it is told of all that happened, and not before: a pass on views that are old would come to nothing or
-//! meet a conflict, and a look after each write that concerns a key would mostly find nothing.
+//! that.
 //!
 //! While all other workers are away with questions, the one that is left would be the last to go, and nobody would use the
 //! lock. So it turns to roles first that ask nobody and that what comes back is for, and takes a question along only where
 //! these have nothing to do.
-ghost use Rattle.std.specs.Option.{option_copied};
-ghost use Rattle.std.specs.Prelude.{◌≡◌, ◌≤◌, ◌+◌, IfOk, IfSome, length, false};
+ghost use Rattle.std.specs.Prelude.{◌≡◌, ◌+◌, IfOk, IfSome, length, false};
 ghost use Rattle.cmc_rules.specs.Scripts.{scripted, step_at};
-ghost use Rattle.cmc_plain.specs.Plain.{HasNoDelivery};
-ghost use Rattle.cmc_world.specs.Kept.{on};
+ghost use Rattle.cmc_kernel.specs.Plain.{HasNoDelivery};
+ghost use Rattle.cmc_kernel.specs.Kept.{on};
 ghost use Rattle.cmc_workers.specs.Drives as spec;
 ghost use Rattle.cmc_workers.specs.Drives.{IsErrand};
 ghost use Rattle.cmc_workers.specs.Findings.{IsFound, IsWorkOpening};
 
 use crate::errands::{Answer, Errand, Outcome, Taken, Task};
-use cmc_meta::Key;
+use crate::rounds::{ASKING_NOBODY, Found, ROUND, Round};
+use cmc_kernel::{Decided, Move, Stepped, decides_alone};
 use cmc_moves::let_go;
 use cmc_objects::{Role, Step};
 use cmc_pass::Given;
-use cmc_plain::{Opening, Point, Waking, Work, point_of, question};
-use cmc_world::{Decided, Move, Stepped, decides_alone};
+use cmc_world::{Opening, Point, Work, World, point_of, question};
 use std::alloc::{AllocError, Global};
-
-/// A role that has begun a pass, and the key on which it has.
-#[derive(Drop)]
-struct Turn {
-    role: Role,
-    key: Key,
-}
-
-impl Turn {
-    fn of(opening: &Opening) -> Result<Turn, AllocError> {
-        Ok(Turn {
-            role: opening.role,
-            key: opening.key.copy()?,
-        })
-    }
-}
-
-/// The order in which roles have their turns, all round: that of an issuance. The key manager has two turns on end, since it
-/// makes a key and then writes its name down, and two more after the certificate, where it clears both away. What the last
-/// two look at is written by then. A role that has nothing to do passes its turn on.
-const ROUND: [Role; 11] = [
-    Role::Trigger,
-    Role::KeyManager,
-    Role::KeyManager,
-    Role::RequestManager,
-    Role::Approver,
-    Role::Issuer,
-    Role::Issuing,
-    Role::KeyManager,
-    Role::KeyManager,
-    Role::Revision,
-    Role::Readiness,
-];
-
-/// The roles after the issuers' answers. They ask nobody: they decide, and write.
-const ASKING_NOBODY: [Role; 3] = [Role::Issuing, Role::Readiness, Role::Revision];
 
 /// What lies under the lock.
 #[derive(Drop)]
 pub(crate) struct Shared {
     /// The world and its work queues.
-    pub waking: Waking,
+    pub world: World,
     /// Whose turn it is.
     round: Round,
     /// Whose turn it is for a worker that is left alone.
@@ -109,133 +69,13 @@ fn told(answer: Stepped) -> Went {
     }
 }
 
-/// A pass on the next key above that of the turn on which its role has something to do; `None` where it is nobody's turn, or
-/// there is no such key.
-fn next_in(
-    alloc: Global,
-    waking: &mut Waking,
-    turn: &Option<Turn>,
-) -> Result<Option<Opening>, AllocError>
-    ensures opening { IfOk result (λ o. IfSome o (IsWorkOpening waking.new)) }
-    ensures same { waking.new ≡ waking.old }
-{
-    match turn {
-        Some(Turn { role, key }) => waking.next_work(alloc, *role, Some(key)),
-        None => Ok(None),
-    }
-}
-
-/// What a look for the next pass comes to.
-#[derive(Drop)]
-pub(crate) enum Found {
-    /// This pass may begin.
-    Work(Opening),
-    /// The role has to be told of something first.
-    Behind(Role),
-    /// Nothing is to be done.
-    Nothing,
-}
-
-/// A pass on the first key of the role that has something to do, where the role has nothing to be told of before.
-fn first_of(alloc: Global, waking: &mut Waking, role: Role) -> Result<Found, AllocError>
-    ensures found { IfOk result (IsFound waking.new) }
-    ensures same { waking.new ≡ waking.old }
-{
-    if let Some(step) = waking.next_delivery_to(role) {
-        let_go(step);
-        return Ok(Found::Behind(role));
-    }
-    match waking.next_work(alloc, role, None)? {
-        Some(opening) => Ok(Found::Work(opening)),
-        None => Ok(Found::Nothing),
-    }
-}
-
-/// What the first of the roles comes to that has something to do, or to be told of, and how many stand before it.
-fn first_among(
-    alloc: Global,
-    waking: &mut Waking,
-    roles: &[Role],
-) -> Result<(usize, Found), AllocError>
-    ensures found { IfOk result (λ f. IsFound waking.new f.1) }
-    ensures same { waking.new ≡ waking.old }
-{
-    for (place, role) in roles.iter().enumerate() {
-        match first_of(alloc, waking, *role)? {
-            Found::Nothing => {}
-            found => return Ok((place, found)),
-        }
-    }
-    Ok((0, Found::Nothing))
-}
-
-/// What the first of the roles after this many of them, and then all round, comes to that has something to do, or to be told
-/// of, and how many stand before it.
-fn first_behind(
-    alloc: Global,
-    waking: &mut Waking,
-    roles: &[Role],
-    places: usize,
-) -> Result<(usize, Found), AllocError>
-    ensures found { IfOk result (λ f. IsFound waking.new f.1) }
-    ensures same { waking.new ≡ waking.old }
-{
-    let (before, behind) = roles.split_at(places.min(roles.len()));
-    match first_among(alloc, waking, behind)? {
-        (_place, Found::Nothing) => first_among(alloc, waking, before),
-        (place, found) => Ok((places.saturating_add(place), found)),
-    }
-}
-
-/// Where roles are that have their turns one after another.
-#[derive(Drop)]
-struct Round {
-    /// Whose turn it is.
-    turn: Option<Turn>,
-    /// How many roles have their turns before the next one.
-    places: usize,
-}
-
-impl Round {
-    /// Nobody's turn: the first role comes next.
-    fn new() -> Round {
-        Round {
-            turn: None,
-            places: 0,
-        }
-    }
-
-    /// Where the next pass may begin, and notes whose turn it is by that: on a further key of the role whose turn it is, or of the
-    /// first role after it, all round, that has something to do.
-    fn next(
-        &mut self,
-        alloc: Global,
-        waking: &mut Waking,
-        roles: &[Role],
-    ) -> Result<Found, AllocError>
-        ensures found { IfOk result (IsFound waking.new) }
-        ensures same { waking.new ≡ waking.old }
-    {
-        if let Some(opening) = next_in(alloc, waking, &self.turn)? {
-            self.turn = Some(Turn::of(&opening)?);
-            return Ok(Found::Work(opening));
-        }
-        let (place, found) = first_behind(alloc, waking, roles, self.places)?;
-        if let Found::Work(opening) = &found {
-            self.turn = Some(Turn::of(opening)?);
-            self.places = place.saturating_add(1);
-        }
-        Ok(found)
-    }
-}
-
 impl Shared {
     /// The world at its beginning, with all of its work to do.
-    pub(crate) fn new(waking: Waking, workers: u32) -> Shared
-        ensures { result.waking ≡ waking }
+    pub(crate) fn new(world: World, workers: u32) -> Shared
+        ensures { result.world ≡ world }
     {
         Shared {
-            waking,
+            world,
             round: Round::new(),
             aside: Round::new(),
             wanted: Role::Trigger,
@@ -247,21 +87,21 @@ impl Shared {
 
     /// How many entries the history has.
     pub(crate) fn entries(&self) -> u64
-        ensures { result ≡ length self.now.waking.history }
+        ensures { result ≡ length self.now.world.history }
     {
-        self.waking.world().history().len()
+        self.world.history().len()
     }
 
     /// How many moves can be made at most.
     fn limit(&self) -> u64
-        ensures { result ≡ self.now.waking.scenario.events }
+        ensures { result ≡ self.now.world.scenario.events }
     {
-        self.waking.world().scenario().events()
+        self.world.scenario().events()
     }
 
     /// What came of a move that is answered so. Where its entries do not fit, all is over.
     fn went(&mut self, answer: Stepped) -> Went
-        ensures { self.new.waking ≡ self.old.waking }
+        ensures { self.new.world ≡ self.old.world }
     {
         if matches!(answer, Stepped::Spent { .. }) {
             self.over = true;
@@ -271,20 +111,20 @@ impl Shared {
 
     /// Makes a move.
     fn make(&mut self, alloc: Global, step: Move) -> Result<Went, AllocError>
-        ensures { self.new.waking.scenario ≡ self.old.waking.scenario }
+        ensures { self.new.world.scenario ≡ self.old.world.scenario }
     {
-        let answer = self.waking.step(alloc, step)?;
+        let answer = self.world.step(alloc, step)?;
         Ok(self.went(answer))
     }
 
     /// The question at which the pass waits, if it waits at one.
     fn question_of(&self, taken: Taken) -> Result<Option<Errand>, AllocError>
-        ensures { IfOk result (λ e. IfSome e (λ errand. IsErrand self.now.waking errand)) }
+        ensures { IfOk result (λ e. IfSome e (λ errand. IsErrand self.now.world errand)) }
     {
-        let world = self.waking.world();
-        match question(world, taken.pass)? {
+        let kernel = self.world.kernel();
+        match question(kernel, taken.pass)? {
             Some(order) => {
-                let point = point_of(world.history(), taken.pass, &order);
+                let point = point_of(kernel.history(), taken.pass, &order);
                 Ok(Some(Errand::new(taken, point, Task::Value(order))))
             }
             None => Ok(None),
@@ -293,8 +133,8 @@ impl Shared {
 
     /// Goes away with the question at which the pass waits, if it waits at one.
     fn ask(&mut self, taken: Taken) -> Result<Option<Errand>, AllocError>
-        ensures errand { IfOk result (λ e. IfSome e (λ errand. IsErrand self.new.waking errand)) }
-        ensures same { self.new.waking ≡ self.old.waking }
+        ensures errand { IfOk result (λ e. IfSome e (λ errand. IsErrand self.new.world errand)) }
+        ensures same { self.new.world ≡ self.old.world }
     {
         let errand = self.question_of(taken)?;
         if errand.is_some() {
@@ -305,8 +145,8 @@ impl Shared {
 
     /// Has the pass go on, up to a question or to its end. A pass whose role was stopped meanwhile is dropped.
     fn go_on(&mut self, alloc: Global, taken: Taken) -> Result<Option<Errand>, AllocError>
-        ensures errand { IfOk result (λ e. IfSome e (λ errand. IsErrand self.new.waking errand)) }
-        ensures scenario { self.new.waking.scenario ≡ self.old.waking.scenario }
+        ensures errand { IfOk result (λ e. IfSome e (λ errand. IsErrand self.new.world errand)) }
+        ensures scenario { self.new.world.scenario ≡ self.old.world.scenario }
     {
         for _move in 0..=self.limit() {
             let step = Move::Next {
@@ -330,8 +170,8 @@ impl Shared {
         taken: Taken,
         given: Given,
     ) -> Result<Option<Errand>, AllocError>
-        ensures errand { IfOk result (λ e. IfSome e (λ errand. IsErrand self.new.waking errand)) }
-        ensures scenario { self.new.waking.scenario ≡ self.old.waking.scenario }
+        ensures errand { IfOk result (λ e. IfSome e (λ errand. IsErrand self.new.world errand)) }
+        ensures scenario { self.new.world.scenario ≡ self.old.world.scenario }
     {
         let step = Move::Give {
             pass: taken.pass,
@@ -351,8 +191,8 @@ impl Shared {
         taken: Taken,
         decided: Decided,
     ) -> Result<Option<Errand>, AllocError>
-        ensures errand { IfOk result (λ e. IfSome e (λ errand. IsErrand self.new.waking errand)) }
-        ensures scenario { self.new.waking.scenario ≡ self.old.waking.scenario }
+        ensures errand { IfOk result (λ e. IfSome e (λ errand. IsErrand self.new.world errand)) }
+        ensures scenario { self.new.world.scenario ≡ self.old.world.scenario }
     {
         let step = Move::Decide {
             pass: taken.pass,
@@ -368,8 +208,8 @@ impl Shared {
 
     /// Goes on with the pass for which a thread comes back, up to a question or to its end.
     fn go_back(&mut self, alloc: Global, outcome: Outcome) -> Result<Option<Errand>, AllocError>
-        ensures errand { IfOk result (λ e. IfSome e (λ errand. IsErrand self.new.waking errand)) }
-        ensures scenario { self.new.waking.scenario ≡ self.old.waking.scenario }
+        ensures errand { IfOk result (λ e. IfSome e (λ errand. IsErrand self.new.world errand)) }
+        ensures scenario { self.new.world.scenario ≡ self.old.world.scenario }
     {
         let (taken, answer) = outcome.into_parts();
         match answer {
@@ -384,10 +224,10 @@ impl Shared {
 
     /// What the pass saw, which has just begun, where its role decides by that alone.
     fn undecided(&self, taken: Taken) -> Result<Option<Errand>, AllocError>
-        ensures { IfOk result (λ e. IfSome e (λ errand. IsErrand self.now.waking errand)) }
+        ensures { IfOk result (λ e. IfSome e (λ errand. IsErrand self.now.world errand)) }
     {
-        let world = self.waking.world();
-        match world.passes().get(taken.pass) {
+        let kernel = self.world.kernel();
+        match kernel.passes().get(taken.pass) {
             Some(open) if decides_alone(open.role) => {}
             _ => return Ok(None),
         }
@@ -395,7 +235,7 @@ impl Shared {
             work: Work::Decide,
             entry: self.entries(),
         };
-        match world.begun(taken.pass)? {
+        match kernel.begun(taken.pass)? {
             Some(begun) => Ok(Some(Errand::new(taken, point, Task::Decision(begun)))),
             None => Ok(None),
         }
@@ -404,8 +244,8 @@ impl Shared {
     /// Has the pass, which has just begun, go on, by what came of its first move, if that was made; or outside of the lock, where
     /// its role decides there.
     fn start(&mut self, alloc: Global, started: Started) -> Result<Option<Errand>, AllocError>
-        ensures errand { IfOk result (λ e. IfSome e (λ errand. IsErrand self.new.waking errand)) }
-        ensures scenario { self.new.waking.scenario ≡ self.old.waking.scenario }
+        ensures errand { IfOk result (λ e. IfSome e (λ errand. IsErrand self.new.world errand)) }
+        ensures scenario { self.new.world.scenario ≡ self.old.world.scenario }
     {
         let Started { taken, first } = started;
         match first {
@@ -421,16 +261,16 @@ impl Shared {
 
     /// Whether the next step of the script waits for a count of writes, which each move may reach.
     pub(crate) fn waits_for_count(&self) -> bool
-        ensures { result ≡ spec.waits_for_count (step_at self.now.waking.scenario.script (scripted self.now.waking.history + 1)) }
+        ensures { result ≡ spec.waits_for_count (step_at self.now.world.scenario.script (scripted self.now.world.history + 1)) }
     {
-        matches!(self.waking.world().next_step(), Some(Step::Until { .. }))
+        matches!(self.world.kernel().next_step(), Some(Step::Until { .. }))
     }
 
     /// Whether a role is to be told of something.
     pub(crate) fn is_to_deliver(&self, alloc: Global) -> Result<bool, AllocError>
-        ensures { IfOk result (λ b. b ≡ false → on HasNoDelivery self.now.waking) }
+        ensures { IfOk result (λ b. b ≡ false → on HasNoDelivery self.now.world) }
     {
-        match self.waking.next_delivery() {
+        match self.world.next_delivery() {
             Some(step) => {
                 let_go(step);
                 Ok(true)
@@ -446,25 +286,25 @@ impl Shared {
 
     /// Where the next pass may begin, or who has to be told of something first.
     fn next_turn(&mut self, alloc: Global) -> Result<Found, AllocError>
-        ensures found { IfOk result (IsFound self.new.waking) }
-        ensures same { self.new.waking ≡ self.old.waking }
+        ensures found { IfOk result (IsFound self.new.world) }
+        ensures same { self.new.world ≡ self.old.world }
     {
         if self.is_alone() {
-            match self.aside.next(alloc, &mut self.waking, &ASKING_NOBODY)? {
+            match self.aside.next(alloc, &mut self.world, &ASKING_NOBODY)? {
                 Found::Nothing => {}
                 found => return Ok(found),
             }
         }
-        self.round.next(alloc, &mut self.waking, &ROUND)
+        self.round.next(alloc, &mut self.world, &ROUND)
     }
 
     /// Begins the pass; `None` where it is not begun.
     fn begin_on(&mut self, alloc: Global, opening: Opening) -> Result<Option<Started>, AllocError>
-        requires { IsWorkOpening self.old.waking opening }
-        ensures { self.new.waking.scenario ≡ self.old.waking.scenario }
+        requires { IsWorkOpening self.old.world opening }
+        ensures { self.new.world.scenario ≡ self.old.world.scenario }
     {
-        let incarnation = self.waking.world().incarnation(opening.role);
-        let (begin, first) = self.waking.begin(alloc, opening)?.into_parts();
+        let incarnation = self.world.kernel().incarnation(opening.role);
+        let (begin, first) = self.world.begin(alloc, opening)?.into_parts();
         let begun = self.went(begin);
         let first = match first {
             Some(answer) => Some(self.went(answer)),
@@ -473,7 +313,7 @@ impl Shared {
         match begun {
             Went::On => Ok(Some(Started {
                 taken: Taken {
-                    pass: self.waking.world().passes_begun(),
+                    pass: self.world.kernel().passes_begun(),
                     incarnation,
                 },
                 first,
@@ -484,7 +324,7 @@ impl Shared {
 
     /// Begins the next pass; `None` where none can begin, or not before something is delivered.
     fn begin(&mut self, alloc: Global) -> Result<Option<Started>, AllocError>
-        ensures { self.new.waking.scenario ≡ self.old.waking.scenario }
+        ensures { self.new.world.scenario ≡ self.old.world.scenario }
     {
         match self.next_turn(alloc)? {
             Found::Work(opening) => self.begin_on(alloc, opening),
@@ -499,8 +339,8 @@ impl Shared {
     /// Begins passes, one after another, and has each go on, up to the first that asks or has to decide. `None` where no
     /// pass can begin before something is delivered, or all is over.
     pub(crate) fn take(&mut self, alloc: Global) -> Result<Option<Errand>, AllocError>
-        ensures errand { IfOk result (λ e. IfSome e (λ errand. IsErrand self.new.waking errand)) }
-        ensures scenario { self.new.waking.scenario ≡ self.old.waking.scenario }
+        ensures errand { IfOk result (λ e. IfSome e (λ errand. IsErrand self.new.world errand)) }
+        ensures scenario { self.new.world.scenario ≡ self.old.world.scenario }
     {
         for _pass in 0..=self.limit() {
             if self.over {
@@ -523,8 +363,8 @@ impl Shared {
         alloc: Global,
         outcome: Outcome,
     ) -> Result<Option<Errand>, AllocError>
-        ensures errand { IfOk result (λ e. IfSome e (λ errand. IsErrand self.new.waking errand)) }
-        ensures scenario { self.new.waking.scenario ≡ self.old.waking.scenario }
+        ensures errand { IfOk result (λ e. IfSome e (λ errand. IsErrand self.new.world errand)) }
+        ensures scenario { self.new.world.scenario ≡ self.old.world.scenario }
     {
         if let Some(errand) = self.go_back(alloc, outcome)? {
             return Ok(Some(errand));
@@ -534,10 +374,10 @@ impl Shared {
 
     /// Tells the role that is wanted of all that it was not told of and that is not held from it.
     pub(crate) fn deliver(&mut self, alloc: Global) -> Result<(), AllocError>
-        ensures { self.new.waking.scenario ≡ self.old.waking.scenario }
+        ensures { self.new.world.scenario ≡ self.old.world.scenario }
     {
         for _delivery in 0..=self.limit() {
-            let Some(step) = self.waking.next_delivery_to(self.wanted) else {
+            let Some(step) = self.world.next_delivery_to(self.wanted) else {
                 return Ok(());
             };
             if !matches!(self.make(alloc, step)?, Went::On) {
@@ -549,17 +389,17 @@ impl Shared {
 
     /// Performs the steps of the script that do not wait. All is over where the run is finished.
     pub(crate) fn perform(&mut self, alloc: Global) -> Result<(), AllocError>
-        ensures { self.new.waking.scenario ≡ self.old.waking.scenario }
+        ensures { self.new.world.scenario ≡ self.old.world.scenario }
     {
         for _step in 0..=self.limit() {
-            let Some(step) = self.waking.next_script(alloc)? else {
+            let Some(step) = self.world.next_script(alloc)? else {
                 break;
             };
             if !matches!(self.make(alloc, step)?, Went::On) {
                 break;
             }
         }
-        if self.waking.is_finished(alloc)? {
+        if self.world.finished(alloc)? {
             self.over = true;
         }
         Ok(())

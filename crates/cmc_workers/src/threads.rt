@@ -12,9 +12,9 @@ ghost use Rattle.cmc_workers.specs.Drives.{CanBeDone};
 use crate::errands::{Answer, Errand, Outcome, Task};
 use crate::shared::Shared;
 use cmc_answers::Signer;
+use cmc_kernel::{Begun, decide};
 use cmc_keys::KeyMaker;
-use cmc_plain::{Gate, Waking, value_for};
-use cmc_world::{Begun, decide};
+use cmc_world::{Gate, World, value_for};
 use std::alloc::{AllocError, Global};
 use std::sync::{Condvar, Mutex, Wait};
 use std::thread;
@@ -249,14 +249,14 @@ impl Hall {
 pub(crate) fn in_threads<R: Threads + Wait + Sync, M: KeyMaker, N: Signer, G: Gate>(
     rt: &R,
     alloc: Global,
-    waking: Waking,
+    world: World,
     keys: &M,
     signer: &N,
     gate: &G,
     workers: u32,
-) -> Waking {
+) -> World {
     let hall = Hall {
-        shared: Mutex::new(Shared::new(waking, workers)),
+        shared: Mutex::new(Shared::new(world, workers)),
         to_work: Condvar::new(),
         to_deliver: Condvar::new(),
         to_perform: Condvar::new(),
@@ -284,5 +284,5 @@ pub(crate) fn in_threads<R: Threads + Wait + Sync, M: KeyMaker, N: Signer, G: Ga
         to_deliver: _,
         to_perform: _,
     } = hall;
-    shared.into_inner().waking
+    shared.into_inner().world
 }

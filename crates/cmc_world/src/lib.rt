@@ -1,19 +1,41 @@
-//! The world: the store, the history of what was done on it, and the controllers that work on it.
+//! The world: the kernel and the work queues of its controllers, which each move feeds; the moves that are possible, found by
+//! these queues; and runs by one hand, whose history is a function of its scenario.
 //!
-//! One call of [`World::step`] makes one move. Whatever the moves, the history stays legal, caused and
-//! following its script, each accepted write of a controller keeps its rights, and the history is safe.
+//! One call of [`World::step`] makes one move.
 #![tactic(auto)]
 
-mod advance;
-mod begin;
-mod decision;
-mod delivery;
-mod notes;
-mod readers;
+mod all_moves;
+mod begins;
+mod deliveries;
+mod due;
+mod fed_begins;
+mod fed_deliveries;
+mod fed_passes;
+mod fed_scripts;
+mod gate;
+mod kept;
+mod laws;
+mod looks;
+mod next_move;
+mod openings;
+mod passes;
+mod pending;
+mod plain_move;
+mod questions;
 mod rest;
-mod script;
-mod work_queue;
+mod roles;
+mod run;
+mod scripts;
+mod values;
+mod work;
 mod world;
 
-pub use cmc_moves::{Begun, Decided, Lack, Move, Prospect, Stepped, decide, decides_alone};
-pub use world::{World, every_list_of_moves, passes_keep_to_their_courses};
+pub use all_moves::make_all;
+pub use cmc_kernel::{Begun, Decided, Kernel, Lack, Move, Stepped, decide, decides_alone};
+pub use gate::{Gate, NoGate, Point, Work};
+pub use laws::{plain_ends_agree, plain_histories_agree, plain_histories_have_no_free_question};
+pub use openings::{Opened, Opening};
+pub use questions::{point_of, question};
+pub use run::{Driven, drain, drive_plain};
+pub use values::value_for;
+pub use world::World;

@@ -5,10 +5,9 @@ use crate::restarts::{make, make_whole, open_pass, scenario as row_scenario};
 use cmc_history::History;
 use cmc_meta::{Kind, Numbers};
 use cmc_objects::{Entry, Material, Order, Role, Step, Who};
-use cmc_plain::{plain, question};
 use cmc_setup::Steps;
 use cmc_tests::values::key;
-use cmc_world::{Lack, Move, Stepped, World};
+use cmc_world::{Lack, Move, Stepped, World, question};
 use std::alloc::Global;
 use std::process::Abort;
 use std::test::Fail;
@@ -38,7 +37,7 @@ fn begin(alloc: Global, role: Role, name: &str) -> Result<Move, Fail> {
 /// Tells the role of the newest Certificate.
 fn tell(alloc: Global, world: &mut World, role: Role) -> Result<(), Fail> {
     let kind = Kind::Certificate;
-    let to = world.log().last_of_kind(kind);
+    let to = world.kernel().log().last_of_kind(kind);
     make(alloc, world, Move::Deliver { role, kind, to })
 }
 
@@ -91,7 +90,7 @@ fn asking(alloc: Global, world: &mut World, name: &str) -> Result<u64, Fail> {
 }
 
 fn asked(world: &World, pass: u64) -> Result<Order, Fail> {
-    match question(world, pass)? {
+    match question(world.kernel(), pass)? {
         Some(order) => Ok(order),
         None => Err(Fail::from("no question")),
     }
@@ -165,7 +164,7 @@ fn run_to_the_stop(alloc: Global, world: &mut World) -> Result<(), Fail> {
         if let Some(Entry::Stop { .. }) = world.history().as_slice().last() {
             return Ok(());
         }
-        match plain(alloc, world)? {
+        match world.plain(alloc)? {
             Some(step) => make(alloc, world, step)?,
             None => return Err(Fail::from("no stop")),
         }

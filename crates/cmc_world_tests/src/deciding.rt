@@ -6,10 +6,9 @@ use crate::fixtures::{applied, put, value_then, whole_scenario};
 use cmc_history::History;
 use cmc_meta::{Key, Kind, Numbers};
 use cmc_objects::{Call, Entry, Material, Role, Step};
-use cmc_plain::{plain, question};
 use cmc_setup::{Scenario, Steps};
 use cmc_tests::values::{key, let_go};
-use cmc_world::{Decided, Lack, Move, Stepped, World, decide};
+use cmc_world::{Decided, Lack, Move, Stepped, World, decide, question};
 use std::alloc::Global;
 use std::process::Abort;
 use std::test::Fail;
@@ -34,7 +33,7 @@ fn scenario(alloc: Global) -> Result<Scenario, Fail> {
 
 /// A decision on what the pass of this number saw; none where no such pass is open, or its role does not decide alone.
 pub(crate) fn decision(alloc: Global, world: &World, pass: u64) -> Result<Option<Decided>, Fail> {
-    match world.begun(pass)? {
+    match world.kernel().begun(pass)? {
         Some(begun) => Ok(decide(alloc, begun)?),
         None => Ok(None),
     }
@@ -72,7 +71,7 @@ fn go_on(
     pass: u64,
     incarnation: u64,
 ) -> Result<&'static str, Fail> {
-    match question(world, pass)? {
+    match question(world.kernel(), pass)? {
         Some(order) => {
             let given = value_then(alloc, order)?;
             let step = Move::Give {
@@ -147,7 +146,7 @@ fn make_plain(
 /// Runs the scenario by the plain order, up to its end. With decisions each pass takes one that can.
 fn run(alloc: Global, world: &mut World, decides: bool, taken: &mut u64) -> Result<(), Fail> {
     for _ in 0..400 {
-        match plain(alloc, world)? {
+        match world.plain(alloc)? {
             Some(step) => {
                 let _ = make_plain(alloc, world, step, decides, taken)?;
             }
@@ -181,7 +180,7 @@ fn begins(step: &Move, role: Role) -> bool {
 
 /// Makes the plain move, unless it has the role begin: true where it does.
 fn comes_to(alloc: Global, world: &mut World, role: Role) -> Result<bool, Fail> {
-    let Some(step) = plain(alloc, world)? else {
+    let Some(step) = world.plain(alloc)? else {
         return Err(Fail::from("the role never begins"));
     };
     if begins(&step, role) {
@@ -213,7 +212,7 @@ fn begin_at(alloc: Global, world: &mut World, role: Role, key: Key) -> Result<()
 fn begin(alloc: Global, world: &mut World, role: Role, word: &str) -> Result<u64, Fail> {
     let key = key(alloc, Kind::Certificate, word)?;
     begin_at(alloc, world, role, key)?;
-    Ok(world.passes_begun())
+    Ok(world.kernel().passes_begun())
 }
 
 fn are_same_calls(left: &Call, right: &Call) -> bool {

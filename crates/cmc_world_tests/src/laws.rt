@@ -81,7 +81,7 @@ fn plain_world(alloc: Global, scenario: Scenario) -> Result<World, Fail> {
 }
 
 /// What the laws say of a plain run, whatever its scenario.
-fn is_calm(alloc: Global, world: &World) -> Result<bool, Fail> {
+fn is_calm(alloc: Global, world: &mut World) -> Result<bool, Fail> {
     let entries = world.history().as_slice();
     let refused = entries.iter().any(is_refused);
     Ok(run_alone(world.history()) && !refused && world.finished(alloc)?)
@@ -90,12 +90,12 @@ fn is_calm(alloc: Global, world: &World) -> Result<bool, Fail> {
 #[test]
 fn passes_of_an_issuance_run_alone(rt: HostRuntime) -> Result<(), Fail> {
     let alloc = rt.alloc();
-    let world = plain_world(alloc, issued_scenario(alloc)?)?;
-    let calm = is_calm(alloc, &world)?;
+    let mut world = plain_world(alloc, issued_scenario(alloc)?)?;
+    let calm = is_calm(alloc, &mut world)?;
     passes(&rt, "calm", calm);
     let again = begun_again(world.history())?;
     passes(&rt, "again", again > 0);
-    let issued = is_issued_once(alloc, &world)?;
+    let issued = is_issued_once(alloc, &mut world)?;
     passes(&rt, "issued once", issued);
     Ok(())
 }
@@ -103,10 +103,10 @@ fn passes_of_an_issuance_run_alone(rt: HostRuntime) -> Result<(), Fail> {
 #[test]
 fn passes_of_a_denied_issuance_run_alone(rt: HostRuntime) -> Result<(), Fail> {
     let alloc = rt.alloc();
-    let world = plain_world(alloc, denied_scenario(alloc)?)?;
-    let calm = is_calm(alloc, &world)?;
+    let mut world = plain_world(alloc, denied_scenario(alloc)?)?;
+    let calm = is_calm(alloc, &mut world)?;
     passes(&rt, "calm", calm);
-    let issued = is_issued_once(alloc, &world)?;
+    let issued = is_issued_once(alloc, &mut world)?;
     passes(&rt, "not issued", !issued);
     Ok(())
 }

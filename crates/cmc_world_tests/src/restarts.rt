@@ -8,7 +8,6 @@ use cmc_objects::{
     Algorithm, CertSpec, Entry, KeyRow, KeyRows, Material, Object, Order, Role, Rows, Shared,
     SignRows, Step, Who,
 };
-use cmc_plain::plain;
 use cmc_setup::{Scenario, Steps};
 use cmc_tests::values::{key, let_go};
 use cmc_world::{Move, Stepped, World};
@@ -74,7 +73,7 @@ fn give(
 fn incarnation_of(world: &World, step: &Move) -> u64 {
     match step {
         Move::Next { incarnation, .. } => *incarnation,
-        Move::Begin { role, .. } => world.incarnation(*role),
+        Move::Begin { role, .. } => world.kernel().incarnation(*role),
         _ => 0,
     }
 }
@@ -143,7 +142,7 @@ fn keep_and_make(
 /// Makes the plain moves to the end, and keeps them.
 fn keep_all(alloc: Global, world: &mut World, moves: &mut Vec<Move>) -> Result<(), Fail> {
     for _ in 0..1000 {
-        match plain(alloc, world)? {
+        match world.plain(alloc)? {
             None => return Ok(()),
             Some(step) => keep_and_make(alloc, world, moves, step)?,
         }
@@ -197,7 +196,7 @@ pub(crate) fn make_whole(alloc: Global, world: &mut World, step: Move) -> Result
 
 /// Tells the role of the newest write of the kind; false where it is not behind.
 fn is_told(alloc: Global, world: &mut World, role: Role, kind: Kind) -> Result<bool, Fail> {
-    let to = world.log().last_of_kind(kind);
+    let to = world.kernel().log().last_of_kind(kind);
     let answer = world.step(alloc, Move::Deliver { role, kind, to })?;
     Ok(is_done(answer))
 }
@@ -217,7 +216,7 @@ fn deliver(alloc: Global, world: &mut World) -> Result<bool, Fail> {
 
 /// Makes the plain move, and those of the pass that is then open; false where the run is finished.
 fn go_on(alloc: Global, world: &mut World) -> Result<bool, Fail> {
-    match plain(alloc, world)? {
+    match world.plain(alloc)? {
         None => Ok(false),
         Some(step) => {
             make_whole(alloc, world, step)?;
@@ -258,7 +257,7 @@ fn restarted(alloc: Global, role: Role, behind: u64) -> Result<Scenario, Fail> {
 }
 
 /// Whether the run is finished, and its one Certificate is Ready with the revision 1.
-pub(crate) fn is_issued_once(alloc: Global, world: &World) -> Result<bool, Fail> {
+pub(crate) fn is_issued_once(alloc: Global, world: &mut World) -> Result<bool, Fail> {
     let web = key(alloc, Kind::Certificate, "web")?;
     let is_ready = match world.objects().get(&web) {
         Some(Object::Cert(certificate)) => {
@@ -291,7 +290,7 @@ fn run(alloc: Global, world: &mut World, moves: &[Move]) -> Result<(), Fail> {
 fn ends_well(alloc: Global, moves: &[Move], role: Role, behind: u64) -> Result<bool, Fail> {
     let mut world = World::new(alloc, restarted(alloc, role, behind)?)?;
     run(alloc, &mut world, moves)?;
-    let is_issued_once = is_issued_once(alloc, &world)?;
+    let is_issued_once = is_issued_once(alloc, &mut world)?;
     begun_again(world.history())?;
     Ok(is_issued_once && raises(world.history())? == 1 && audit(world.history())? >= 1)
 }

@@ -9,7 +9,6 @@ use crate::fixtures::{applied, put, value_of, whole_scenario};
 use cmc_history::History;
 use cmc_meta::{Bytes, Key, Kind, Numbers};
 use cmc_objects::{Cause, Entry, Material, Object, Order, Parts, Role, Secret, Step};
-use cmc_plain::plain;
 use cmc_setup::{Scenario, Steps};
 use cmc_tests::values::{key, new_meta, text};
 use cmc_world::{Decided, Lack, Move, Stepped, World};
@@ -287,8 +286,13 @@ fn note_entries(shown: &mut [bool; 4], history: &History) {
 }
 
 /// The plain move, but often any move in place of the next step of the script, so that much happens between two steps.
-fn steady_move(alloc: Global, world: &World, random: &mut u64, begun: u64) -> Result<Move, Fail> {
-    match plain(alloc, world)? {
+fn steady_move(
+    alloc: Global,
+    world: &mut World,
+    random: &mut u64,
+    begun: u64,
+) -> Result<Move, Fail> {
+    match world.plain(alloc)? {
         Some(Move::Script) => {
             if pick(random, 25) == 0 {
                 return Ok(Move::Script);
@@ -301,7 +305,7 @@ fn steady_move(alloc: Global, world: &World, random: &mut u64, begun: u64) -> Re
 }
 
 /// The next move: a plain one, a value of a question that was told, a decision, or any.
-fn next_move(alloc: Global, world: &World, walk: &mut Walk) -> Result<Move, Fail> {
+fn next_move(alloc: Global, world: &mut World, walk: &mut Walk) -> Result<Move, Fail> {
     let begun = walk.begun;
     let told = &walk.told;
     match (pick(&mut walk.random, 7), &told.last, &told.before) {

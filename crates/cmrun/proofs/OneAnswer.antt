@@ -9,10 +9,10 @@ use Rattle.cmc_scenario.specs.Scenarios.{scenario_at}
 use Rattle.cmc_scenario.specs.Loads.{load_setup}
 use Rattle.cmc_scenario_print.specs.ScenarioTree.{scenario_tree}
 use Rattle.cmc_scenario_laws.proofs.BoundRows.{what_is_read, what_is_made}
-use Rattle.cmc_world.specs.Kept.{setting_of}
-use Rattle.cmc_plain.specs.Waits.{summary_at}
-use Rattle.cmc_plain.proofs.Determined.{ends_agree, one_end}
-use Rattle.cmc_plain.proofs.FreeRows.{none_free}
+use Rattle.cmc_kernel.specs.Kept.{setting_of}
+use Rattle.cmc_waits.specs.Waits.{summary_at}
+use Rattle.cmc_world.proofs.Determined.{ends_agree, one_end}
+use Rattle.cmc_world.proofs.FreeRows.{none_free}
 use Rattle.cmrun.specs.Headline.{Reads, printed_lines, RunsOn, AnswersRun, IsRunOf, IsLoadOf, Spends, SpendsValue, SpendsAll}
 
 -- of one scenario there is one text

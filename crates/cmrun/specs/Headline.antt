@@ -14,10 +14,10 @@ use Rattle.cmc_setup.specs.declared.scenario.Scenario.{Scenario}
 use Rattle.cmc_scenario.specs.Scenarios.{scenario_at}
 use Rattle.cmc_scenario.specs.Loads.{load_setup}
 use Rattle.cmc_scenario_print.specs.ScenarioTree.{scenario_tree}
-use Rattle.cmc_world.specs.Kept.{setting_of}
-use Rattle.cmc_plain.specs.Histories.{IsPlain, IsFull}
-use Rattle.cmc_plain.specs.Named.{NamesEachWait, IsWhole}
-use Rattle.cmc_plain.specs.Waits.{summary_at}
+use Rattle.cmc_kernel.specs.Kept.{setting_of}
+use Rattle.cmc_world.specs.Histories.{IsPlain, IsFull}
+use Rattle.cmc_waits.specs.Named.{NamesEachWait, IsWhole}
+use Rattle.cmc_waits.specs.Waits.{summary_at}
 use Rattle.cmc_audit_laws.specs.AuditedYes.{IsAuditedYes}
 use Rattle.cmc_collect_run.specs.Answers as collection
 use Rattle.cmc_collect_run.specs.declared.answering.NotCollected.{NotCollected}

@@ -4,13 +4,13 @@ ghost use Rattle.serde_json.specs.Written.{has_float};
 ghost use Rattle.std.specs.Prelude.{◌≡◌, ◌≢◌, ◌≤◌, ◌↔◌, true, false, None, IfOk, IfErr, IfSome};
 ghost use Rattle.std.specs.Str.{IsUtf8};
 ghost use Rattle.cmc_report.specs.Text.{joined};
-ghost use Rattle.cmc_plain.specs.Histories.{IsPlain};
-ghost use Rattle.cmc_plain.specs.Named.{IsWhole, NamesEachWait};
-ghost use Rattle.cmc_plain.specs.Waits.{summary_at};
+ghost use Rattle.cmc_world.specs.Histories.{IsPlain};
+ghost use Rattle.cmc_waits.specs.Named.{IsWhole, NamesEachWait};
+ghost use Rattle.cmc_waits.specs.Waits.{summary_at};
 ghost use Rattle.cmc_rules.specs.Runs.{IsFinished};
 ghost use Rattle.cmc_scenario.specs.Loads.{load_setup};
 ghost use Rattle.cmc_scenario_print.specs.ScenarioTree.{scenario_tree};
-ghost use Rattle.cmc_world.specs.Kept.{on};
+ghost use Rattle.cmc_kernel.specs.Kept.{on};
 ghost use Rattle.cmrun.specs.Headline.{AnswersRun, IsLoadOf, IsRunOf, RunsOn};
 ghost use Rattle.cmrun.specs.Statuses.{Explains, ExplainsLoad, ExplainsRun, LeavesSink, LeavesRead, Refuses, RefusesValue, SpendsOn, reads_failed, reads_nothing, scenario_limit, writes_failed, writes_nothing};
 ghost use Rattle.cmrun.specs.Words.{command_of};
@@ -25,10 +25,10 @@ use crate::words::{Command, read_words};
 use cmc_answers::Signer;
 use cmc_audit_laws::each_world_is_audited_yes;
 use cmc_keys::KeyMaker;
-use cmc_plain::{each_wait_is_named, summary};
 use cmc_report::{Lines, history_text, summary_text};
 use cmc_scenario::{BadScenario, Scenario, generate, read, value_of_scenario};
 use cmc_seed::HashSeed;
+use cmc_waits::each_wait_is_named;
 use cmc_workers::{Driven, Gate, drive};
 use cmc_world::World;
 use serde_json::{Category, Value};
@@ -61,9 +61,9 @@ fn lines_of(
     ensures { IfOk result (λ lines. RunsOn workers alone (view value.now) world.now.scenario (joined lines)) }
 {
     world.is_run();
-    each_world_is_audited_yes(world);
+    each_world_is_audited_yes(world.kernel());
     waits_are_named(world);
-    let counts = summary(alloc, world)?;
+    let counts = world.summary(alloc)?;
     if alone {
         return summary_text(alloc, &counts);
     }

@@ -1,5 +1,5 @@
 use Rattle.cmc_moves.proofs.Sounds.{each_sound}
-use Rattle.cmc_world.proofs.Starting.{formed}
+use Rattle.cmc_kernel.proofs.Starting.{formed}
 use Rattle.cmc_audit_ledger.specs.Ledgers.{setting_of}
 use Rattle.cmc_audit_laws.proofs.RunPasses.{have_seconds, run_passes}
 use Rattle.cmc_audit_laws.proofs.passing.each_run_is_audited_yes.Goals as goal

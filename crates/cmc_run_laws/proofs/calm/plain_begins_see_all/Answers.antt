@@ -1,6 +1,6 @@
-use Rattle.cmc_world.proofs.Elsewhere.{none_held}
-use Rattle.cmc_world.proofs.Newest.{views_newest}
-use Rattle.cmc_plain.proofs.Finishing.{told}
+use Rattle.cmc_kernel.proofs.Elsewhere.{none_held}
+use Rattle.cmc_kernel.proofs.Newest.{views_newest}
+use Rattle.cmc_waits.proofs.Finishing.{told}
 use Rattle.cmc_run_laws.proofs.calm.plain_begins_see_all.Goals as goal
 
 pub returns : goal.returns

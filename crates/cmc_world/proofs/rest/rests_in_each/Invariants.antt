@@ -1,9 +1,8 @@
-use Rattle.std.proofs.Common.{take}
-use Rattle.std.specs.List.{All}
-use Rattle.cmc_objects.specs.declared.role.Role.{Role}
-use Rattle.cmc_world.specs.Kept.{setting_of}
-use Rattle.cmc_rules.specs.Rest.{RestsIn}
+use Rattle.cmc_kernel.specs.Kept.{setting_of}
+use Rattle.cmc_world.specs.Fed.{IsFed}
+use Rattle.cmc_world.specs.KeptLooks.{IsKeptRight}
+use Rattle.cmc_world.specs.Searches.{EachBefore, RestsWhereRunning}
 use Rattle.cmc_world.proofs.rest.rests_in_each.Given as goal
 
-abbrev pub invariant-loop-role : goal.invariant-loop-role
-invariant-loop-role l = All (λ (role : Role). RestsIn (setting_of l.world.scenario) l.world.history role) (take l.role-index l.roles)
+abbrev pub invariant-loop-place : goal.invariant-loop-place
+invariant-loop-place l = EachBefore (RestsWhereRunning (setting_of l.kernel.scenario) l.kernel.history) l.place × IsFed (setting_of l.kernel.scenario) l.kernel.history l.queues × IsKeptRight (setting_of l.kernel.scenario) l.kernel.history l.kept

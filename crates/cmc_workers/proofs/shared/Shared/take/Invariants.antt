@@ -2,4 +2,4 @@ use Rattle.std.proofs.Common.{◌≡◌}
 use Rattle.cmc_workers.proofs.shared.Shared.take.Given as goal
 
 abbrev pub invariant-loop-pass : goal.invariant-loop-pass
-invariant-loop-pass l = l.self.waking.scenario ≡ l.fn.self.waking.scenario
+invariant-loop-pass l = l.self.world.scenario ≡ l.fn.self.world.scenario

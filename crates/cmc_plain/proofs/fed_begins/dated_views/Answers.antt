@@ -1,7 +1,0 @@
-use Rattle.cmc_world.specs.Kept.{setting_of}
-use Rattle.cmc_plain.proofs.Undue.{views_dated}
-use Rattle.cmc_plain.proofs.fed_begins.dated_views.Goals as goal
-
-pub returns-clause-dated : goal.returns-clause-dated
-returns-clause-dated c =
-    views_dated (setting_of c.args.world.now.scenario) c.args.world.now.history c.args.role c.args.key.now c.views.result c.is_formed.ensures c.is_run.ensures.run (c.can_act.ensures c.args.role c.args.key.now).dated c.views.ensures

@@ -1,8 +1,0 @@
-use Rattle.cmc_plain.proofs.Determined.{ends_agree, one_end}
-use Rattle.cmc_plain.proofs.laws.plain_ends_agree.Goals as goal
-
-pub returns-clause-one : goal.returns-clause-one
-returns-clause-one c = ends_agree
-
-pub returns-clause-apart : goal.returns-clause-apart
-returns-clause-apart c = one_end

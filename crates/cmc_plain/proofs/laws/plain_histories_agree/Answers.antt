@@ -1,5 +1,0 @@
-use Rattle.cmc_plain.proofs.Determined.{plain_agree}
-use Rattle.cmc_plain.proofs.laws.plain_histories_agree.Goals as goal
-
-pub returns : goal.returns
-returns c = plain_agree

@@ -1,6 +1,0 @@
-use Rattle.cmc_world.specs.Kept.{setting_of}
-use Rattle.cmc_plain.proofs.Looking.{fresh_free}
-use Rattle.cmc_plain.proofs.looks.look_at.Goals as goal
-
-pub see-requires-clause-free : goal.see-requires-clause-free
-see-requires-clause-free c = fresh_free (setting_of c.args.world.now.scenario) c.args.world.now.history c.args.role c.args.key.now c.args.queues.now c.requires.fed c.requires.fresh

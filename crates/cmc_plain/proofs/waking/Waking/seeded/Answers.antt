@@ -1,9 +1,0 @@
-use Rattle.cmc_plain.proofs.Feeding.{fed_new}
-use Rattle.cmc_plain.proofs.KeptOver.{nothing_kept}
-use Rattle.cmc_plain.proofs.waking.Waking.seeded.Goals as goal
-
-pub invariant_of-result : goal.invariant_of-result
-invariant_of-result c = (
-  fed_new c.args.scenario c.in_ok-world.world c.in_ok-queues.queues c.in_ok-world.ensures c.in_ok-queues.ensures,
-  nothing_kept c.in_ok-world.world c.new-2.result c.new-2.ensures.told c.new-2.ensures.act c.new-2.ensures.looked,
-)

@@ -1,0 +1,14 @@
+pub mod AllReady
+pub mod EachNamed
+pub mod EachWait
+pub mod NextApart
+pub mod NothingHeld
+pub mod Outcomes
+pub mod OutcomesStand
+pub mod OutcomesWritten
+pub mod Stuck
+pub mod SummaryItems
+pub mod Finishing
+pub mod Newer
+pub mod Remembering
+pub mod ToldKinds

@@ -1,0 +1,8 @@
+use Rattle.cmc_kernel.specs.Kept.{setting_of}
+use Rattle.cmc_world.specs.Fed.{IsFed}
+use Rattle.cmc_world.specs.KeptLooks.{IsKeptRight}
+use Rattle.cmc_world.specs.Searches.{HasNoneBefore, FitsSome}
+use Rattle.cmc_world.proofs.begins.first_begin.Given as goal
+
+abbrev pub invariant-loop-place : goal.invariant-loop-place
+invariant-loop-place l = HasNoneBefore (FitsSome (setting_of l.kernel.scenario) l.kernel.history) l.place × IsFed (setting_of l.kernel.scenario) l.kernel.history l.queues × IsKeptRight (setting_of l.kernel.scenario) l.kernel.history l.kept

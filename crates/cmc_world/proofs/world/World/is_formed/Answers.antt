@@ -1,7 +1,0 @@
-use Rattle.std.proofs.Common.{subst}
-use Rattle.cmc_safety.specs.Formed.{IsFormed}
-use Rattle.cmc_world.specs.Kept.{Seen, setting_of}
-use Rattle.cmc_world.proofs.world.World.is_formed.Goals as goal
-
-pub returns : goal.returns
-returns c = subst (λ (v : Seen). IsFormed (setting_of v.scenario)) c.self.view_is c.self.invariant.held.formed

@@ -1,8 +1,0 @@
-use Rattle.cmc_world.proofs.Leading.{keeps, grows}
-use Rattle.cmc_world.proofs.world.every_list_of_moves.Goals as goal
-
-pub returns-clause-keeps : goal.returns-clause-keeps
-returns-clause-keeps c = keeps
-
-pub returns-clause-grows : goal.returns-clause-grows
-returns-clause-grows c = grows
