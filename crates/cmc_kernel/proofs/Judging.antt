@@ -54,6 +54,11 @@ pub fits_by : (s : Setting) (h : List Entry) (more entries events : ℕ) (room :
     → (IsTrue room ↔ (entries + more ≤ events)) → Decides (length h + more ≤ s.events) room
 fits_by s h more entries events room n e r = subst (λ (m : ℕ). Decides (length h + more ≤ m) room) e (subst (λ (m : ℕ). Decides (m + more ≤ events) room) n (decided (entries + more ≤ events) room r))
 
+-- whether an informer is held is kept
+pub kept_is : (s : Setting) (h : List Entry) (w : Holdings) (role : Role) (kind : Kind) (t : RoleState) (kept : Bool) → IsKept s h w → t ≡ w.role_state role → kept ≡ kind_flag_of kind t.held
+    → kept ≡ held s h role kind
+kept_is s h w role kind t kept k at f = f ∙ ap (λ (x : RoleState). kind_flag_of kind x.held) (at ∙ k.held.role_state role) ∙ held_is s h role kind
+
 pub judged_delivery : (s : Setting) (h : List Entry) (w : Holdings) (role : Role) (kind : Kind) (to : ℕ) (t : RoleState) (place newest entries events : ℕ) (informed kept news room : Bool) (answer : Stepped)
     → IsKept s h w → t ≡ w.role_state role → place ≡ position_of kind t.told → newest ≡ last_of_kind kind w.log
     → (IsTrue news ↔ ((place < to) × IsOfKind kind (write_at to w.log))) → entries ≡ length h → events ≡ s.events → (IsTrue room ↔ (entries + 1 ≤ events))

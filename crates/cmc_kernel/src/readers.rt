@@ -10,6 +10,7 @@ ghost use Rattle.cmc_rules.specs.Memory.{past};
 ghost use Rattle.cmc_rules.specs.Origins.{begun};
 ghost use Rattle.cmc_rules.specs.Sameness.{IsDue};
 ghost use Rattle.cmc_rules.specs.Positions.{positions};
+ghost use Rattle.cmc_rules.specs.Scripts.{held};
 ghost use Rattle.cmc_rules.specs.Views.{views};
 ghost use Rattle.cmc_model.specs.Writes.{writes};
 ghost use Rattle.cmc_caches.specs.Told.{caches_at, caches_of};
@@ -17,11 +18,11 @@ ghost use Rattle.cmc_held.specs.Open.{pass_at};
 ghost use Rattle.cmc_held.specs.Remembered.{past_or_new};
 ghost use Rattle.cmc_kernel.specs.Kept.{on};
 
+use crate::due;
 use crate::kernel::Kernel;
-use crate::prospects;
 use cmc_caches::Caches;
-use cmc_held::{Log, Passes, shown_positions};
-use cmc_meta::Key;
+use cmc_held::{Log, Passes, is_held, shown_positions};
+use cmc_meta::{Key, Kind};
 use cmc_objects::{Positions, Role};
 use cmc_pass::Views;
 use cmc_rules::Past;
@@ -91,6 +92,13 @@ impl Kernel {
         self.role_states.get(role).running
     }
 
+    /// Whether deliveries of the kind are held back from the role.
+    pub fn is_held(&self, role: Role, kind: Kind) -> bool
+        ensures { result ≡ on held self.now role kind }
+    {
+        is_held(self.role_states.get(role), kind)
+    }
+
     /// The present moment, in seconds since the beginning of 1970.
     pub fn moment(&self) -> i64
         ensures { result ≡ on spec.moment self.now }
@@ -113,6 +121,6 @@ impl Kernel {
         ensures { IsTrue result ↔ IsDue (on past self.now role key.now) seen.now (on spec.moment self.now) (positions self.now.history role) }
     {
         self.saw_one_run(role, key);
-        prospects::is_due(self.past(role, key), seen, self.moment(), self.told(role))
+        due::is_due(self.past(role, key), seen, self.moment(), self.told(role))
     }
 }

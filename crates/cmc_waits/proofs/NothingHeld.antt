@@ -1,5 +1,5 @@
 -- Where each role runs and no informer is held, the end of a run is told to all.
-use Rattle.std.proofs.Common.{◌≡◌, ℕ, List, [], ◌∷◌, Bool, true, false, not, ◌&&◌, ◌||◌, refl, sym, ap, subst, inl, inr}
+use Rattle.std.proofs.Common.{◌≡◌, List, [], ◌∷◌, Bool, true, false, not, ◌&&◌, refl, sym, subst, inl, inr}
 use Rattle.std.proofs.lemmas.Bool.{or_parts}
 use Rattle.std.specs.List.{list_any}
 use Rattle.cmc_meta.specs.declared.key.Kind.{Kind}
@@ -12,40 +12,8 @@ use Rattle.cmc_objects.specs.Informers.{has_informer}
 use Rattle.cmc_rules.specs.Scripts.{held}
 use Rattle.cmc_rules.specs.Rest.{IsAtRest}
 use Rattle.cmc_rules.specs.SeenObjects.{IsAmong}
-use Rattle.cmc_moves.specs.declared.moves.Stepped.{Stepped}
-use Rattle.cmc_moves.specs.declared.moves.Stepped.TheVariants.{NotNow, Done, Spent}
-use Rattle.cmc_moves.specs.declared.moves.Lack.TheVariants.{Stopped, NoInformer, Held, Current, NotAWrite}
-use Rattle.cmc_moves.specs.Answers.{Need, Bar, AnswersDelivery}
 use Rattle.cmc_kernel.proofs.Newest.{IsToldOfAll}
-use Rattle.cmc_waits.specs.Waits.{is_refusal, is_kept_from, is_hindered, all_roles, is_stopped}
-
--- ---- the answer to a delivery tells whether the role runs and its informer is not held
-
-late_is_other : (answer : Stepped) (Current_ Write_ Room_ : Type 0) (position to entries : ℕ)
-    → Bar Current_ (NotNow (Current position)) answer (Need Write_ (NotNow (NotAWrite to)) answer (Need Room_ (Spent entries) answer (answer ≡ Done)))
-    → is_refusal answer ≡ false
-late_is_other answer c w r position to entries (inl current) = ap is_refusal current.1
-late_is_other answer c w r position to entries (inr (off, inl no_write)) = ap is_refusal no_write.1
-late_is_other answer c w r position to entries (inr (off, inr (write, inl no_room))) = ap is_refusal no_room.1
-late_is_other answer c w r position to entries (inr (off, inr (write, inr (room, done)))) = ap is_refusal done
-
-told_by : (running informed holding : Bool) (answer : Stepped) (rest : Type 0) → (rest → is_refusal answer ≡ false)
-    → Need (running ≡ true) (NotNow Stopped) answer (Need (informed ≡ true) (NotNow NoInformer) answer (Need (holding ≡ false) (NotNow Held) answer rest))
-    → is_refusal answer ≡ (not running || (informed && holding))
-told_by true informed holding answer rest late (inl stops) = absurd (stops.0 refl)
-told_by false informed holding answer rest late (inl stops) = ap is_refusal stops.1
-told_by true true holding answer rest late (inr (on, inl none)) = absurd (none.0 refl)
-told_by true false holding answer rest late (inr (on, inl none)) = ap is_refusal none.1
-told_by true true true answer rest late (inr (on, inr (informed, inl holds))) = ap is_refusal holds.1
-told_by true true false answer rest late (inr (on, inr (informed, inl holds))) = absurd (holds.0 refl)
-told_by true true true answer rest late (inr (on, inr (informed, inr (free, more)))) = absurd (cc free)
-told_by true true false answer rest late (inr (on, inr (informed, inr (free, more)))) = late more
-told_by true false holding answer rest late (inr (on, inr (informed, more))) = absurd (cc informed)
-told_by false informed holding answer rest late (inr (on, more)) = absurd (cc on)
-
-pub kept_by : (s : Setting) (h : List Entry) (role : Role) (kind : Kind) (to : ℕ) (answer : Stepped) → AnswersDelivery s h role kind to answer
-    → is_refusal answer ≡ is_kept_from s h role kind
-kept_by s h role kind to answer told = told_by (runs s h role) (has_informer role kind) (held s h role kind) answer _ (late_is_other answer _ _ _ _ _ _) told
+use Rattle.cmc_waits.specs.Waits.{is_kept_from, is_hindered, all_roles, is_stopped}
 
 -- ---- what that is for a run at rest
 

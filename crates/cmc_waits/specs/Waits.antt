@@ -1,5 +1,5 @@
 -- What each Certificate that is not Ready waits for, and the summary of what exists.
-use Rattle.std.specs.Prelude.{◌≡◌, ℤ, Bool, true, false, not, ◌&&◌, ◌||◌, ◌==◌, List, [], ◌∷◌, length, count_by, codes, Option, Some, None, if◌then◌else◌}
+use Rattle.std.specs.Prelude.{◌≡◌, ℤ, Bool, true, not, ◌&&◌, ◌||◌, ◌==◌, List, [], ◌∷◌, length, count_by, codes, Option, Some, None, if◌then◌else◌}
 use Rattle.std.specs.List.{list_any}
 use Rattle.std.specs.Str.{bytes_eq}
 use Rattle.std.specs.FinMap as finite
@@ -32,10 +32,7 @@ use Rattle.cmc_rules.specs.Trigger.{is_issuing, is_backing_off}
 use Rattle.cmc_rules.specs.Issuance.{says_issued, is_kept_for_keys}
 use Rattle.cmc_rules.specs.Views.{Caches, present_views}
 use Rattle.cmc_caches.specs.Told.{caches_at}
-use Rattle.cmc_moves.specs.declared.moves.Stepped.{Stepped}
-use Rattle.cmc_moves.specs.declared.moves.Stepped.TheVariants.{NotNow}
-use Rattle.cmc_moves.specs.declared.moves.Lack.{Lack}
-use Rattle.cmc_moves.specs.declared.moves.Lack.TheVariants.{Stopped, Held}
+use Rattle.cmc_moves.specs.declared.moves.Lack.TheVariants.{Stopped}
 
 -- ---- the roles
 
@@ -52,16 +49,6 @@ all_roles = Trigger ∷ KeyManager ∷ RequestManager ∷ Approver ∷ Issuer �
 -- some role does not run, or some informer is held
 abbrev pub is_stopped : Setting → List Entry → Bool
 is_stopped s h = list_any (λ role. is_hindered s h role) all_roles
-
-abbrev pub is_pause : Lack → Bool
-is_pause Stopped = true
-is_pause Held = true
-is_pause other = false
-
--- a step answers so to a delivery where the role does not run, or its informer of the kind is held
-abbrev pub is_refusal : Stepped → Bool
-is_refusal (NotNow lack) = is_pause lack
-is_refusal other = false
 
 -- ---- one Certificate, by what there is to see of it
 

@@ -12,11 +12,13 @@ ghost use Rattle.cmc_kernel.specs.Kept.{on};
 ghost use Rattle.cmc_waits.specs.Waits as words;
 
 use cmc_caches::RoleCaches;
-use cmc_kernel::{Kernel, Lack, Stepped};
+use cmc_kernel::Kernel;
 use cmc_match::{is_next_key, next_request};
 use cmc_meta::{Condition, ConditionKind, Key, Kind, Tri};
 use cmc_next::{is_approved, is_denied, is_issuing};
-use cmc_objects::{CertStatus, Certificate, CertificateRequest, Positions, Role, Secret, Shared};
+use cmc_objects::{
+    CertStatus, Certificate, CertificateRequest, Positions, Role, Secret, Shared, has_informer,
+};
 use cmc_pass::Views;
 use cmc_policies::backoff_until;
 use cmc_summary::WaitName;
@@ -118,26 +120,11 @@ fn wait_in(moment: i64, seen: &Views) -> Option<WaitName>
 
 // ---- the roles
 
-fn is_pause(lack: &Lack) -> bool
-    ensures { result ≡ words.is_pause lack.now }
-{
-    matches!(lack, Lack::Stopped | Lack::Held)
-}
-
-fn is_refusal(answer: &Stepped) -> bool
-    ensures { result ≡ words.is_refusal answer.now }
-{
-    match answer {
-        Stepped::NotNow(lack) => is_pause(lack),
-        _ => false,
-    }
-}
-
 /// Whether the role does not run, or its informer of the kind is held.
 fn is_kept_from(kernel: &Kernel, role: Role, kind: Kind) -> bool
     ensures { result ≡ on words.is_kept_from kernel.now role kind }
 {
-    is_refusal(&kernel.judge_delivery(role, kind, 0))
+    !kernel.runs(role) || (has_informer(role, kind) && kernel.is_held(role, kind))
 }
 
 fn is_hindered(kernel: &Kernel, role: Role) -> bool

@@ -1,7 +1,7 @@
 use Rattle.std.proofs.Common.{sym, rules, w64, ◌∙◌}
 use Rattle.std.proofs.lemmas.Int.{to_z-of_z}
 use Rattle.cmc_kernel.proofs.Idling.{due_unless_same, not_due_untold, none_told}
-use Rattle.cmc_kernel.proofs.prospects.is_due_after.Goals as goal
+use Rattle.cmc_kernel.proofs.due.is_due_after.Goals as goal
 
 pub returns-then-is_none : goal.returns-then-is_none
 returns-then-is_none c =
