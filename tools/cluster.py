@@ -254,7 +254,7 @@ class Cluster:
         if algorithm not in (None, "RSA", "ECDSA"):
             self.note(thing, f"left out: its key is {algorithm}")
             return None
-        known = self.schema.root["definitions"]["certificateSpec"]["properties"]
+        known = self.schema.root["$defs"]["certificateSpec"]["properties"]
         spec = self.only(thing, thing["spec"], known, "spec")
         if isinstance(spec.get("privateKey"), dict):
             spec["privateKey"] = self.only(thing, spec["privateKey"], known["privateKey"]["properties"], "spec.privateKey")
@@ -366,7 +366,7 @@ class Cluster:
 
     def apply_request(self, thing, applied, place, spec, der, signed):
         """The steps that put a request into the store, approve it, and give it its certificate."""
-        known = self.schema.root["definitions"]["requestSpec"]["properties"]
+        known = self.schema.root["$defs"]["requestSpec"]["properties"]
         meta = metadata_of(thing)
         # A Certificate begins with no revision, so the request in use states revision 0.
         meta["annotations"][REVISION] = "0"

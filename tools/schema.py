@@ -21,6 +21,24 @@ TYPES = {
 }
 
 
+# What a value of a type is called where nothing else is said of it.
+TYPE_NAMES = {"object": "an object", "array": "a list", "string": "a text", "boolean": "true or false"}
+
+
+def wanted_of(schema):
+    """What may be there: what the schema says of it, and of words and whole numbers which ones."""
+    said, form = schema.get("description", ""), ""
+    if "enum" in schema:
+        *words, last = schema["enum"]
+        form = f"{', '.join(words)} or {last}" if words else last
+    elif schema.get("type") == "integer":
+        low, high = schema["minimum"], schema["maximum"]
+        form = f"a whole number, {low} to {high}" if high < 1 << 32 else f"a whole number from {low} on"
+    if not said and not form and "type" in schema:
+        form = TYPE_NAMES[schema["type"]] + (f" of at most {schema['maxLength']} bytes" if "maxLength" in schema else "")
+    return f"{said}: {form}" if said and form else said or form
+
+
 class Fault:
     """A place that does not fit: its path, what is wrong there, what may be there, and the words or member names to choose from."""
 
@@ -61,7 +79,7 @@ class Schema:
 
     def at(self, schema, value, path):
         schema = self.resolved(schema)
-        wanted = schema.get("description", "")
+        wanted = wanted_of(schema)
         if "type" in schema and not TYPES[schema["type"]](value):
             yield Fault(path, f"it is no {schema['type']}", wanted)
             return
@@ -72,11 +90,23 @@ class Schema:
             yield from self.items(schema, value, path, wanted)
         for part in schema.get("allOf", []):
             yield from self.at(part, value, path)
-        if "anyOf" in schema and all(list(self.at(part, value, path)) for part in schema["anyOf"]):
+        forms = [self.resolved(part) for part in schema.get("anyOf", [])]
+        if isinstance(value, dict) and all("properties" in form for form in forms):
+            # A member like `do` says which form is meant; where it says none, its own words are the fault.
+            for form in forms:
+                if self.is_meant(form, value):
+                    yield from self.at(form, value, path)
+        elif forms and all(list(self.at(form, value, path)) for form in forms):
             yield Fault(path, "no form fits", wanted)
         if "if" in schema:
             fits = not list(self.at(schema["if"], value, path))
             yield from self.at(schema.get("then" if fits else "else", {}), value, path)
+
+    @staticmethod
+    def is_meant(form, value):
+        """Whether the members by which a form is told from others are its own."""
+        marks = {name: inner for name, inner in form["properties"].items() if "const" in inner or "enum" in inner and name == "do"}
+        return all(name in value and any(same(value[name], it) for it in inner.get("enum", [inner.get("const")])) for name, inner in marks.items())
 
     @staticmethod
     def alone(schema, value, path, wanted):
@@ -96,7 +126,7 @@ class Schema:
         for name in schema.get("required", []):
             if name not in value:
                 inner = self.resolved(schema.get("properties", {}).get(name, {}))
-                yield Fault((*path, name), "it is missing", inner.get("description", ""))
+                yield Fault((*path, name), "it is missing", wanted_of(inner))
         if not schema.get("minProperties", 0) <= len(value) <= schema.get("maxProperties", len(value)):
             yield Fault(path, "it has too few or too many members", wanted)
         known = schema.get("properties", {})

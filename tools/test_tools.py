@@ -482,7 +482,8 @@ def test_above():
 
 SOURCES = {
     "crates.txt": "# NAME: DEP ..\nlow:\ncmc_der: low\nlow_tests: low\n",
-    "crates/cmc_der/src/lib.rt": "pub use der::read;\n",
+    "crates/cmc_der/src/lib.rt": "//! What is inside.\npub use tags::read_tag;\n",
+    "crates/cmc_der/src/tags.rt": "/// Reads a tag.\npub fn read_tag(octet: u8) -> Result<Tag, NotDer> {\n}\n",
     "crates/low/src/lib.rt": "//! What is low: a crate.\n#![tactic(auto)]\n\nmod list;\nmod maker;\n\npub use list::{List, law, longest, read};\npub use maker::Maker;\npub use cmc_der::Tag;\n",
     "crates/low/src/list.rt": """/// A list.
 pub struct List {
@@ -537,38 +538,38 @@ pub fn law()
 pub fn unused() {}
 """,
     "crates/low/src/maker.rt": "/// Makes.\npub trait Maker: Drop {\n    /// A value.\n    fn make(&self) -> u64;\n}\n\nimpl Maker for List {\n    fn make(&self) -> u64 {\n    }\n}\n",
-    "docs/CALLS.md": "# Calls\n\n<!-- tools/calls writes what follows -->\nold\n",
 }
 
 
 def test_calls():
-    """The page has the public calls of each crate with what is said of them, and --check refuses one that is out of date."""
-    page = """# Calls
-
-<!-- tools/calls writes what follows -->
-
-**low**: What is low
+    """A crate's public calls are printed with what is said of them; of all crates those that are parts or tests are named alone."""
+    low = """**low**: What is low
 - *List* new; `put` Adds an item
 - `read` Reads a list of a text `BadList` *short found*; `longest` What is said of this one has so many words that not all of ..
 - *Maker* `make` A value
 - laws: `law` *kept*
 - of cmc_der: Tag
-
-Parts of these, whose calls are in their `src/lib.rt`: cmc_der.
 """
+    inside = "**cmc_der**: What is inside\n- `read_tag` Reads a tag `NotDer`\n"
     with small_tree(SOURCES) as tools:
-        code, out, err = ran(["calls", "--check"], tools=tools)
-        assert code == 1 and not out and err.startswith("calls: ") and "docs/CALLS.md" in err, err
-        assert ran(["calls"], tools=tools) == (0, "", "")
-        with open(f"{tools}/../docs/CALLS.md", encoding="utf-8") as file:
-            text = file.read()
-        assert text == page, text
-        assert ran(["calls", "--check"], tools=tools) == (0, "", "")
+        assert ran(["calls", "low"], tools=tools) == (0, low, "")
+        assert ran(["calls", "low", "cmc_der"], tools=tools) == (0, f"{low}\n{inside}", "")
+        code, out, err = ran(["calls"], tools=tools)
+        assert (code, err) == (0, "") and out.startswith("# Public calls\n"), f"{code} {out} {err}"
+        assert out.endswith(f"\n\n{low}\nParts of these: cmc_der. Tests: low_tests.\n"), out
+        assert ran(["calls", "none"], tools=tools) == (2, "", "calls: crates.txt has no crate none\n")
 
 
-def test_calls_are_the_sources():
-    """The page of calls is what the sources say."""
-    assert ran(["calls", "--check"]) == (0, "", "")
+def test_calls_names_each_crate():
+    """What is printed of this repository names each of its crates, and a call of each that is public surface."""
+    code, out, err = ran(["calls"])
+    with open(f"{TOP}/crates.txt", encoding="utf-8") as file:
+        crates = re.findall(r"^(\w+)[^:#\n]*:", file.read(), re.M)
+    assert (code, err) == (0, "") and len(crates) > 60
+    for crate in crates:
+        said = f"\n**{crate}**: " in out
+        assert said or re.search(rf"\b{crate}\b", out.splitlines()[-1]), crate
+        assert not said or re.search(rf"\*\*{crate}\*\*: [^\n]+\n- ", out), crate
 
 
 # ---- names that collide

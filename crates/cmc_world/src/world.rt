@@ -22,6 +22,7 @@ ghost use Rattle.cmc_world.specs.Next.{IsNextDelivery, IsNextDeliveryTo, IsNextS
 ghost use Rattle.cmc_world.specs.Openings.{LeavesOpened};
 ghost use Rattle.cmc_kernel.specs.Plain.{IsPlainMove};
 ghost use Rattle.cmc_world.specs.PlainMoves.{IsNextPlain, move_of};
+ghost use Rattle.cmc_waits.specs.Waits.{summary_at};
 ghost use Rattle.cmc_world.specs.Searches.{FindsWork, IsWork};
 
 use crate::begins::Beginning;

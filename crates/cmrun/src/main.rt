@@ -93,7 +93,11 @@ mod tests_of_audit;
 #[cfg(test)]
 mod tests_of_collect;
 #[cfg(test)]
+mod tests_of_ends;
+#[cfg(test)]
 mod tests_of_hostile_input;
+#[cfg(test)]
+mod tests_of_refusals;
 #[cfg(test)]
 mod tests_of_rows;
 #[cfg(test)]
