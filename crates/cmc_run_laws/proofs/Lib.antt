@@ -1,8 +1,8 @@
 mod Settling
 mod Readied
-mod Failing
-mod Going
-mod Issued
+pub mod Failing
+pub mod Going
+pub mod Issued
 mod CalmScripts
 mod CalmViews
 mod CalmReplies
