@@ -7,7 +7,11 @@ ghost use Rattle.cmc_report.specs.Text.{joined};
 ghost use Rattle.cmc_world.specs.Histories.{IsPlain};
 ghost use Rattle.cmc_waits.specs.Named.{IsWhole, NamesEachWait};
 ghost use Rattle.cmc_waits.specs.Waits.{summary_at};
-ghost use Rattle.cmc_rules.specs.Runs.{IsFinished};
+ghost use Rattle.cmc_audit_laws.specs.AuditedYes.{IsAuditedYes};
+ghost use Rattle.cmc_rules.specs.Runs.{IsFinished, IsRun};
+ghost use Rattle.cmc_rules.specs.Safety.{IsSafe};
+ghost use Rattle.cmc_safety.specs.Completion.{CompletesIssuing};
+ghost use Rattle.cmc_safety.specs.Invariants.{KeepsInvariants};
 ghost use Rattle.cmc_scenario.specs.Loads.{load_setup};
 ghost use Rattle.cmc_scenario_print.specs.ScenarioTree.{scenario_tree};
 ghost use Rattle.cmc_kernel.specs.Kept.{on};
@@ -37,6 +41,19 @@ use std::str;
 use std::sync::Wait;
 use std::thread::Threads;
 
+/// A law: the history of the world is that of a run, safe, complete and in order, and an audit of its lines says yes.
+fn is_sound_run(world: &World)
+    ensures run { on IsRun world.now }
+    ensures safe { on IsSafe world.now }
+    ensures complete { on CompletesIssuing world.now }
+    ensures order { on KeepsInvariants world.now }
+    ensures audited { on IsAuditedYes world.now }
+{
+    let kernel = world.kernel();
+    kernel.is_run();
+    each_world_is_audited_yes(kernel);
+}
+
 /// What each Certificate waits for in a finished world, each with its name.
 fn waits_are_named(world: &World)
     requires { on IsFinished world.now }
@@ -60,8 +77,7 @@ fn lines_of(
     requires plain { workers ≡ 0 → on IsPlain world.now }
     ensures { IfOk result (λ lines. RunsOn workers alone (view value.now) world.now.scenario (joined lines)) }
 {
-    world.is_run();
-    each_world_is_audited_yes(world.kernel());
+    is_sound_run(world);
     waits_are_named(world);
     let counts = world.summary(alloc)?;
     if alone {
