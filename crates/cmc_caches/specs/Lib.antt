@@ -1,2 +1,5 @@
 pub mod Told
 pub mod Affected
+pub mod Lines
+pub mod Left
+pub mod Board

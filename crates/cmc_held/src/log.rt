@@ -94,6 +94,13 @@ impl Log {
         self.items.as_slice()
     }
 
+    /// The write of the version; `None` exactly where none has it.
+    pub fn write(&self, version: u64) -> Option<&Write>
+        ensures { option_copied result ≡ spec.write_at version self.now.writes }
+    {
+        write_of(self.as_slice(), version)
+    }
+
     /// Whether the write of this version is one of the kind; no write has version 0.
     pub fn is_of_kind(&self, version: u64, kind: Kind) -> bool
         ensures { IsTrue result ↔ IsOfKind kind (spec.write_at version self.now.writes) }
