@@ -23,8 +23,8 @@ use Rattle.cmc_informer.specs.Caches.{is_owned_by}
 use Rattle.cmc_caches.specs.Lines.{is_noted, numbers_in}
 use Rattle.cmc_caches.specs.Left.{AreAtMost, AreFalling, IsTopped, has_left, is_write_of, numbers_under}
 use Rattle.cmc_caches.specs.Board.{Columned, IsColumn, IsColumnAfter, IsColumnBy, IsColumnKept, LeadTo, LeadsBack, NotesLeft, is_of_secret, objects_by}
-use Rattle.cmc_caches.proofs.Lines.{contents_more, oldest_count, tie_back, write_newest, write_of_oldest}
-use Rattle.cmc_caches.proofs.Left.{at_most_more, left_pushed, noted_left, topped_falls, topped_left, topped_low, topped_same}
+use Rattle.cmc_caches.proofs.LastNumbers.{contents_more, oldest_count, tie_back, write_newest, write_of_oldest}
+use Rattle.cmc_caches.proofs.Topped.{at_most_more, left_pushed, noted_left, topped_falls, topped_left, topped_low, topped_same}
 
 -- the write of the next number
 abbrev pub IsNextWrite : ℕ → Write → List Write → Type 0

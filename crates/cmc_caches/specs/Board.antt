@@ -1,5 +1,5 @@
 -- The board: the accepted writes, and of each kind what they leave with what left its indexes.
-use Rattle.std.specs.Prelude.{◌≡◌, ℕ, ◌+◌, ◌≤◌, ◌||◌, Bool, true, false, List, ◌∷◌, length, Option, Some}
+use Rattle.std.specs.Prelude.{◌≡◌, ℕ, ◌+◌, ◌≤◌, ◌||◌, Bool, true, false, List, [], ◌∷◌, length, Option, Some}
 use Rattle.std.specs.BTreeMap.{is_at}
 use Rattle.std.specs.List.{list_any}
 use Rattle.std.specs.List.Sorted.{IsStrictlySortedBy}
@@ -9,7 +9,7 @@ use Rattle.cmc_meta.specs.declared.key.Kind.TheVariants.{Certificate, Certificat
 use Rattle.cmc_meta.specs.Keys.{key_cmp}
 use Rattle.cmc_objects.specs.declared.object.Object.{Object}
 use Rattle.cmc_model.specs.declared.write.Write.{Write}
-use Rattle.cmc_model.specs.Objects.{Objects, object_at}
+use Rattle.cmc_model.specs.Objects.{Objects, no_objects, object_at}
 use Rattle.cmc_model.specs.Replies.{put_at}
 use Rattle.cmc_model.specs.Versions.{uid_of, IsVersion}
 use Rattle.cmc_model.specs.Writes.{contents, kind_eq, of_kind, oldest, write_at}
@@ -67,6 +67,16 @@ pub record IsColumnKept (number : ℕ) (old new : Columned) : Type 0 where
 abbrev pub IsColumnBy : Bool → ℕ → Write → Columned → Columned → Type 0
 IsColumnBy true number w old new = IsColumnAfter number w old new
 IsColumnBy false number w old new = new ≡ old
+
+abbrev pub IsColumnFailed : Bool → ℕ → Columned → Columned → Type 0
+IsColumnFailed true number old new = IsColumnKept number old new
+IsColumnFailed false number old new = new ≡ old
+
+-- nothing is known of it
+pub record IsFirst (column : Columned) : Type 0 where
+  pub objects : column.objects ≡ no_objects
+  pub owners : (uid : ℕ) → numbers_under column.owners uid ≡ []
+  pub targets : (secret : Key) → numbers_in column.targets secret ≡ []
 
 -- ---- all kinds
 

@@ -60,7 +60,7 @@ fn add_owners(uids: &mut Numbers, object: Option<&Object>) -> Result<(), AllocEr
 }
 
 /// Whether both stand and have the same owners.
-fn have_same_owners(before: Option<&Object>, after: Option<&Object>) -> bool
+pub(crate) fn have_same_owners(before: Option<&Object>, after: Option<&Object>) -> bool
     ensures { result ≡ true → owner_uids_of (option_copied before.entry) ≡ owner_uids_of (option_copied after.entry) }
 {
     match (before, after) {

@@ -62,7 +62,8 @@ fn request_at(objects: &Cache, key: &Key) -> Result<Option<Shared<CertificateReq
     }
 }
 
-fn target_key(certificate: &Certificate) -> Result<Key, AllocError>
+/// The key of the Secret that the Certificate names.
+pub(crate) fn target_key(certificate: &Certificate) -> Result<Key, AllocError>
     ensures { IfOk result (λ k. k ≡ record { kind = Kind.Secret; namespace = certificate.now.meta.namespace; name = certificate.now.spec.secret_name }) }
 {
     Ok(Key {

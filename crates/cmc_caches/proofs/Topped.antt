@@ -1,16 +1,19 @@
 -- Lines of numbers before which one number is put.
-use Rattle.std.proofs.Common.{◌≡◌, ℕ, ◌+◌, ◌≤◌, List, [], ◌∷◌, length, reverse, take, get_or, ◌<◌, Bool, true, false, refl, sym, ap, subst, ◌∙◌, inl, inr, ◌⊎◌, arith}
+use Rattle.std.proofs.Common.{◌≡◌, ℕ, ◌+◌, ◌≤◌, List, [], ◌∷◌, ◌++◌, length, take, get_or, ◌<◌, Bool, true, false, refl, sym, ap, subst, ◌∙◌, inl, inr, ◌⊎◌, arith}
 use Rattle.std.specs.Prelude.{if◌then◌else◌, nat_lt, ◌==◌, ◌&&◌, ◌||◌}
-use Rattle.std.proofs.Math.Bool.{or-true}
-use Rattle.std.proofs.lemmas.Bool.{eqb-true, or_cases}
+use Rattle.std.proofs.Math.Bool.{or-false, or-true}
+use Rattle.std.proofs.lemmas.Bool.{eq-eqb, eqb-true, or_cases}
 use Rattle.std.proofs.lemmas.Bool.Decides.{nat_tests}
-use Rattle.std.proofs.lemmas.List.{reverse-append, take_more}
+use Rattle.std.proofs.lemmas.List.{take_more}
+use Rattle.std.proofs.lemmas.List.Folds.{list_any-append}
 use Rattle.cmc_meta.specs.declared.key.Key.{Key}
+use Rattle.cmc_meta.specs.declared.owners.OwnerRef.{OwnerRef}
 use Rattle.cmc_model.specs.declared.write.Write.{Write}
 use Rattle.cmc_model.specs.Writes.{write_at}
+use Rattle.cmc_informer.specs.Caches.{names}
 use Rattle.cmc_caches.specs.Lines.{is_noted}
 use Rattle.cmc_caches.specs.Left.{AreAtMost, AreFalling, IsTopped, has_left, is_write_of}
-use Rattle.cmc_caches.proofs.Lines.{write_older}
+use Rattle.cmc_caches.proofs.LastNumbers.{write_older}
 
 or_right : (a b : Bool) → b ≡ true → (a || b) ≡ true
 or_right a b is = ap (λ x. a || x) is ∙ or-true a
@@ -65,11 +68,32 @@ left_pushed p key w ws (n ∷ ns) low =
 
 -- ---- the walk back
 
-none_below : (p n : ℕ) (key : Key) (ws : List Write) (ns : List ℕ) → n ≤ p → AreAtMost n ns → has_left p ns key ws ≡ false
+pub none_below : (p n : ℕ) (key : Key) (ws : List Write) (ns : List ℕ) → n ≤ p → AreAtMost n ns → has_left p ns key ws ≡ false
 none_below p n key ws [] low most = refl
 none_below p n key ws (m ∷ ms) low most =
     let off : nat_lt p m ≡ false = let fits : m ≤ p = omega (arith, most.0, low) in grind (arith, nat_tests) in
     ap (λ (b : Bool). (b && is_write_of (write_at m ws) key) || has_left p ms key ws) off ∙ none_below p n key ws ms low most.1
 
-reversed_next : (ns : List ℕ) (i d : ℕ) → i < length ns → reverse (take (i + 1) ns) ≡ get_or ns i d ∷ reverse (take i ns)
-reversed_next ns i d low = ap reverse (take_more ns i d low) ∙ reverse-append (take i ns) (get_or ns i d ∷ [])
+pub topped_on : (m : ℕ) (old mid new : List ℕ) → new ≡ mid → IsTopped m old mid → IsTopped m old new
+topped_on m old mid new is topped = subst (IsTopped m old) (sym is) topped
+
+-- ---- one owner more
+
+itself : (n : ℕ) (ns : List ℕ) → is_noted n (n ∷ ns) ≡ true
+itself n ns = ap (λ (b : Bool). b || is_noted n ns) (eq-eqb n n refl)
+
+noted_by : (b : Bool) (u n : ℕ) (owner : OwnerRef) (mid new : List ℕ) → (u == owner.uid) ≡ b → new ≡ (if b then n ∷ mid else mid) → (is_noted n mid ≡ true) ⊎ ((owner.uid == u || false) ≡ true) → is_noted n new ≡ true
+noted_by true u n owner mid new e is had = ap (is_noted n) is ∙ itself n mid
+noted_by false u n owner mid new e is (inl was) = ap (is_noted n) is ∙ was
+noted_by false u n owner mid new e is (inr here) =
+    absurd (let on : (u == owner.uid) ≡ true = eq-eqb u owner.uid (sym (eqb-true owner.uid u (sym (or-false (owner.uid == u)) ∙ here))) in cc (on, e))
+
+pub noted_next : (owners : List OwnerRef) (i u n : ℕ) (owner : OwnerRef) (mid new : List ℕ) → i < length owners → owner ≡ get_or owners i owner → new ≡ (if u == owner.uid then n ∷ mid else mid)
+    → (names u (take i owners) ≡ true → is_noted n mid ≡ true) → names u (take (i + 1) owners) ≡ true → is_noted n new ≡ true
+noted_next owners i u n owner mid new low at is was named =
+    let more : take (i + 1) owners ≡ take i owners ++ owner ∷ [] = take_more owners i owner low ∙ ap (λ (o : OwnerRef). take i owners ++ o ∷ []) (sym at) in
+    noted_by (u == owner.uid) u n owner mid new refl is
+    (elim (or_cases (names u (take i owners)) (owner.uid == u || false) (sym (ap (names u) more ∙ list_any-append (λ o. o.uid == u) (take i owners) (owner ∷ [])) ∙ named)) [
+      | inl before ↦ inl (was before)
+      | inr here ↦ inr here
+    ])

@@ -1,0 +1,161 @@
+//! One board of versions for all roles.
+ghost use Rattle.std.specs.Option.{option_copied};
+ghost use Rattle.std.specs.Prelude.{◌≡◌, ◌+◌, ◌<◌, ◌≤◌, ◌∷◌, [], IfOk, OnOk, OnErr, length};
+ghost use Rattle.cmc_meta.specs.declared.key.Kind.TheVariants as kinds;
+ghost use Rattle.cmc_model.specs.Objects.{object_at};
+ghost use Rattle.cmc_model.specs.Writes.{kind_eq};
+ghost use Rattle.cmc_caches.specs.Board.{AreBornWhereNumbered, IsColumnBy, IsColumnFailed, LeadTo, is_of_secret, objects_by};
+ghost use Rattle.cmc_informer.specs.Caches.{has_uid, is_owned_by};
+ghost use Rattle.cmc_informer.specs.Indexes.{Finds};
+
+use crate::column::Column;
+use crate::joined::{joined, keys_since};
+use crate::lines::Lines;
+use cmc_held::Log;
+use cmc_informer::Keys;
+use cmc_meta::{Key, Kind};
+use cmc_model::Write;
+use cmc_objects::Object;
+use cmc_seed::HashSeed;
+use std::alloc::{AllocError, Global};
+use std::marker::Model;
+
+/// The accepted writes, under each key where its versions stand in them, and of each kind the objects that the known
+/// writes leave. A write is accepted at once, and known when a role is first told of it: that takes memory.
+pub(crate) struct Board {
+    log: Log,
+    /// How many of the writes the rest knows.
+    known: u64,
+    lines: Lines,
+    certificates: Column,
+    requests: Column,
+    secrets: Column,
+}
+
+impl Drop for Board {
+    fn drop(self) {
+        let Board {
+            log: _log,
+            known: _known,
+            lines: _lines,
+            certificates: _certificates,
+            requests: _requests,
+            secrets: _secrets,
+        } = self;
+    }
+}
+
+impl Model for Board {
+    ghost use Rattle.cmc_caches.specs.Board.{Boarded, IsBoard};
+
+    ghost Value = { Boarded };
+
+    ghost view = { λ b. record { writes = b.log.writes; spare = b.log.spare; known = b.known } };
+
+    ghost invariant = { λ b. IsBoard b.lines b.certificates b.requests b.secrets b.known b.log.writes };
+}
+
+/// Applies the write to the column of its kind.
+fn apply_to(
+    alloc: Global,
+    certificates: &mut Column,
+    requests: &mut Column,
+    secrets: &mut Column,
+    write: &Write,
+    number: u64,
+) -> Result<(), AllocError>
+    ensures certificates { OnOk result (IsColumnBy (kind_eq write.now.key.kind kinds.Certificate) number write.now certificates.old certificates.new) }
+    ensures requests { OnOk result (IsColumnBy (kind_eq write.now.key.kind kinds.CertificateRequest) number write.now requests.old requests.new) }
+    ensures secrets { OnOk result (IsColumnBy (kind_eq write.now.key.kind kinds.Secret) number write.now secrets.old secrets.new) }
+    ensures no_certificates { OnErr result (IsColumnFailed (kind_eq write.now.key.kind kinds.Certificate) number certificates.old certificates.new) }
+    ensures no_requests { OnErr result (IsColumnFailed (kind_eq write.now.key.kind kinds.CertificateRequest) number requests.old requests.new) }
+    ensures no_secrets { OnErr result (IsColumnFailed (kind_eq write.now.key.kind kinds.Secret) number secrets.old secrets.new) }
+{
+    match write.key.kind {
+        Kind::Certificate => certificates.take_in(alloc, write, number),
+        Kind::CertificateRequest => requests.take_in(alloc, write, number),
+        Kind::Secret => secrets.take_in(alloc, write, number),
+    }
+}
+
+impl Board {
+    /// No writes, and keys and uids are hashed by the seed. It takes no memory.
+    pub(crate) fn new(alloc: Global, seed: HashSeed) -> Board
+        ensures { result.writes ≡ [] }
+    {
+        Board {
+            log: Log::new(alloc),
+            known: 0,
+            lines: Lines::new(alloc, seed),
+            certificates: Column::new(alloc, seed),
+            requests: Column::new(alloc, seed),
+            secrets: Column::new(alloc, seed),
+        }
+    }
+
+    /// The accepted writes.
+    pub(crate) fn log(&self) -> &Log
+        ensures writes { result.now.writes ≡ self.now.writes }
+        ensures spare { result.now.spare ≡ self.now.spare }
+    {
+        &self.log
+    }
+
+    /// Makes room for so many more writes, and changes nothing else; room that exists is kept.
+    pub(crate) fn reserve(&mut self, more: u64) -> Result<(), AllocError>
+        ensures room { OnOk result (more ≤ self.new.spare) }
+        ensures kept { self.old.spare ≤ self.new.spare }
+        ensures same { self.new.writes ≡ self.old.writes }
+        ensures known { self.new.known ≡ self.old.known }
+    {
+        self.log.reserve(more)
+    }
+
+    /// Accepts a write as the newest. It takes no memory.
+    pub(crate) fn push(&mut self, write: Write)
+        requires { 0 < self.old.spare }
+        ensures writes { self.new.writes ≡ write ∷ self.old.writes }
+        ensures spare { self.old.spare ≤ self.new.spare + 1 }
+        ensures known { self.new.known ≡ self.old.known }
+    {
+        self.log.push(write);
+    }
+
+    /// Takes in the next write. Where memory runs out no more writes are known.
+    fn take_in(&mut self, alloc: Global) -> Result<(), AllocError>
+        requires { self.old.known < length self.old.writes }
+        ensures writes { self.new.writes ≡ self.old.writes }
+        ensures spare { self.new.spare ≡ self.old.spare }
+        ensures ok { OnOk result (self.new.known ≡ self.old.known + 1) }
+        ensures err { OnErr result (self.new.known ≡ self.old.known) }
+    {
+        let write = &self.log.as_slice()[self.known as usize];
+        let number = self.known + 1;
+        self.lines.room(alloc, &write.key)?;
+        apply_to(
+            alloc,
+            &mut self.certificates,
+            &mut self.requests,
+            &mut self.secrets,
+            write,
+            number,
+        )?;
+        self.lines.push(&write.key, number);
+        self.known = number;
+        Ok(())
+    }
+
+    /// Takes in the writes up to the number. Where memory runs out some of them are known.
+    pub(crate) fn catch_up(&mut self, alloc: Global, to: u64) -> Result<(), AllocError>
+        requires { to ≤ length self.old.writes }
+        ensures writes { self.new.writes ≡ self.old.writes }
+        ensures spare { self.new.spare ≡ self.old.spare }
+        ensures known { self.old.known ≤ self.new.known }
+        ensures ok { OnOk result (to ≤ self.new.known) }
+    {
+        for _ in self.known..to {
+            self.take_in(alloc)?;
+        }
+        Ok(())
+    }
+}

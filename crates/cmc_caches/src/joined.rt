@@ -1,0 +1,92 @@
+//! Keys in order, gathered from several places.
+ghost use Rattle.std.specs.List.Sorted.{IsStrictlySortedBy};
+ghost use Rattle.std.specs.Prelude.{◌≡◌, ◌||◌, IfOk, OnOk, reverse, true};
+ghost use Rattle.cmc_meta.specs.declared.key.Key.{Key as KeyValue};
+ghost use Rattle.cmc_meta.specs.Keys.{key_cmp};
+ghost use Rattle.cmc_caches.specs.Affected.{KeepsKeys, is_among};
+ghost use Rattle.cmc_caches.specs.Left.{AreFalling, has_left};
+
+use cmc_held::Log;
+use cmc_informer::Keys;
+use cmc_meta::Key;
+use std::alloc::{AllocError, Global};
+use std::collections::BTreeSet;
+use std::marker::Model;
+
+/// Keys in their order, each once.
+pub(crate) struct Joined {
+    set: BTreeSet<Key>,
+}
+
+impl Drop for Joined {
+    fn drop(self) {
+        let Joined { set: _set } = self;
+    }
+}
+
+impl Model for Joined {
+    ghost use Rattle.std.specs.Prelude.{List};
+    ghost use Rattle.cmc_meta.specs.declared.key.Key.{Key};
+
+    ghost Value = { List Key };
+
+    ghost view = { λ j. j.set.keys };
+}
+
+impl Joined {
+    /// No keys. It takes no memory.
+    fn new(alloc: Global) -> Joined {
+        Joined {
+            set: BTreeSet::new(alloc),
+        }
+    }
+
+    /// Adds the key.
+    fn add(&mut self, key: &Key) -> Result<(), AllocError>
+        ensures { OnOk result ((k : KeyValue) → is_among self.new k ≡ (is_among (key.now ∷ []) k || is_among self.old k)) }
+    {
+        self.set.insert(key.copy()?)?;
+        Ok(())
+    }
+
+    /// Adds the keys.
+    fn add_all(&mut self, keys: &[Key]) -> Result<(), AllocError>
+        ensures added { OnOk result (KeepsKeys keys.now self.new) }
+        ensures keeps { OnOk result (KeepsKeys self.old self.new) }
+    {
+        for key in keys {
+            self.add(key)?;
+        }
+        Ok(())
+    }
+
+    /// Adds the keys of the writes of these numbers, the oldest first, that are above the position.
+    fn add_since(&mut self, log: &Log, numbers: &[u64], position: u64) -> Result<(), AllocError>
+        requires { AreFalling (reverse numbers.now) }
+        ensures added { OnOk result ((k : KeyValue) → has_left position (reverse numbers.now) k log.now.writes ≡ true → is_among self.new k ≡ true) }
+        ensures keeps { OnOk result (KeepsKeys self.old self.new) }
+    {
+        for newer in 0..numbers.len() {
+            let number = numbers[numbers.len() - 1 - newer];
+            if number <= position {
+                return Ok(());
+            }
+            if let Some(write) = log.write(number) {
+                self.add(&write.key)?;
+            }
+        }
+        Ok(())
+    }
+
+    /// The keys as a list.
+    fn to_keys(&self, alloc: Global) -> Result<Keys, AllocError>
+        ensures list { IfOk result (λ keys. keys ≡ self.now) }
+        ensures ordered { IsStrictlySortedBy key_cmp self.now }
+    {
+        let mut keys = Keys::new(alloc);
+        for key in self.set.iter() {
+            keys.push(key.copy()?)?;
+        }
+        Ok(keys)
+    }
+}
