@@ -20,9 +20,9 @@ use Rattle.cmc_model.proofs.Versions.{object_at-put}
 use Rattle.cmc_model.proofs.Writes.{oldest-older}
 use Rattle.cmc_informer.proofs.OneMark.{same_key}
 use Rattle.cmc_informer.specs.Caches.{is_owned_by}
-use Rattle.cmc_caches.specs.Lines.{is_noted, numbers_in}
+use Rattle.cmc_caches.specs.Lines.{is_noted}
 use Rattle.cmc_caches.specs.Left.{AreAtMost, AreFalling, IsTopped, has_left, is_write_of, numbers_under}
-use Rattle.cmc_caches.specs.Board.{Columned, IsColumn, IsColumnAfter, IsColumnBy, IsColumnKept, LeadTo, LeadsBack, NotesLeft, is_of_secret, objects_by}
+use Rattle.cmc_caches.specs.Board.{Columned, IsColumn, IsColumnAfter, IsColumnBy, IsColumnKept, LeadTo, LeadsBack, NotesLeft, SecretName, is_of_secret, numbers_for, objects_by}
 use Rattle.cmc_caches.proofs.LastNumbers.{contents_more, oldest_count, tie_back, write_newest, write_of_oldest}
 use Rattle.cmc_caches.proofs.Topped.{at_most_more, left_pushed, noted_left, topped_falls, topped_left, topped_low, topped_same}
 
@@ -166,14 +166,14 @@ column_more true kind n w ws old new of low is column after =
     record {
       leaves = leaves;
       by_owner = led_of_kind kind is_owned_by old.objects new.objects (numbers_under old.owners) (numbers_under new.owners) n w ws low is column.by_owner leaves after.objects after.owners;
-      by_target = led_of_kind kind is_of_secret old.objects new.objects (numbers_in old.targets) (numbers_in new.targets) n w ws low is column.by_target leaves after.objects after.targets;
+      by_target = led_of_kind kind is_of_secret old.objects new.objects (numbers_for old.targets) (numbers_for new.targets) n w ws low is column.by_target leaves after.objects after.targets;
     }
 column_more false kind n w ws old new off low is column same =
     let leaves = leaves_of false kind n w ws old old off is column.leaves refl in
     let there : IsColumn kind old (n + 1) ws = record {
       leaves = leaves;
       by_owner = led_of_other kind is_owned_by old.objects (numbers_under old.owners) n ws low column.by_owner leaves;
-      by_target = led_of_other kind is_of_secret old.objects (numbers_in old.targets) n ws low column.by_target leaves;
+      by_target = led_of_other kind is_of_secret old.objects (numbers_for old.targets) n ws low column.by_target leaves;
     } in
     subst (λ (c : Columned). IsColumn kind c (n + 1) ws) (sym same) there
 
@@ -182,21 +182,21 @@ column_kept kind n ws old new low column kept = record {
   leaves = kept.objects ∙ column.leaves;
   by_owner = subst (λ (m : Objects). LeadsBack kind is_owned_by m (numbers_under new.owners) n ws) (sym kept.objects)
       (led_kept kind is_owned_by old.objects (numbers_under old.owners) (numbers_under new.owners) n ws low column.by_owner kept.owners);
-  by_target = subst (λ (m : Objects). LeadsBack kind is_of_secret m (numbers_in new.targets) n ws) (sym kept.objects)
-      (led_kept kind is_of_secret old.objects (numbers_in old.targets) (numbers_in new.targets) n ws low column.by_target kept.targets);
+  by_target = subst (λ (m : Objects). LeadsBack kind is_of_secret m (numbers_for new.targets) n ws) (sym kept.objects)
+      (led_kept kind is_of_secret old.objects (numbers_for old.targets) (numbers_for new.targets) n ws low column.by_target kept.targets);
 }
 
 pub column_pushed : (kind : Kind) (column : Columned) (n : ℕ) (w : Write) (ws : List Write) → n ≤ length ws → IsColumn kind column n ws → IsColumn kind column n (w ∷ ws)
 column_pushed kind column n w ws low is = record {
   leaves = is.leaves ∙ ap (λ (l : List Write). contents (of_kind kind l)) (sym (oldest-older n w ws low));
   by_owner = led_pushed kind is_owned_by column.objects (numbers_under column.owners) n w ws low is.by_owner;
-  by_target = led_pushed kind is_of_secret column.objects (numbers_in column.targets) n w ws low is.by_target;
+  by_target = led_pushed kind is_of_secret column.objects (numbers_for column.targets) n w ws low is.by_target;
 }
 
-pub column_first : (kind : Kind) (column : Columned) (ws : List Write) → column.objects ≡ objects_by kind 0 ws → ((uid : ℕ) → numbers_under column.owners uid ≡ []) → ((secret : Key) → numbers_in column.targets secret ≡ [])
+pub column_first : (kind : Kind) (column : Columned) (ws : List Write) → column.objects ≡ objects_by kind 0 ws → ((uid : ℕ) → numbers_under column.owners uid ≡ []) → ((secret : SecretName) → numbers_for column.targets secret ≡ [])
     → IsColumn kind column 0 ws
 column_first kind column ws leaves owners targets = record {
   leaves = leaves;
   by_owner = led_first kind is_owned_by column.objects (numbers_under column.owners) ws leaves owners;
-  by_target = led_first kind is_of_secret column.objects (numbers_in column.targets) ws leaves targets;
+  by_target = led_first kind is_of_secret column.objects (numbers_for column.targets) ws leaves targets;
 }

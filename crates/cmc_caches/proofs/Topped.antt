@@ -79,7 +79,7 @@ topped_on m old mid new is topped = subst (IsTopped m old) (sym is) topped
 
 -- ---- one owner more
 
-itself : (n : ℕ) (ns : List ℕ) → is_noted n (n ∷ ns) ≡ true
+pub itself : (n : ℕ) (ns : List ℕ) → is_noted n (n ∷ ns) ≡ true
 itself n ns = ap (λ (b : Bool). b || is_noted n ns) (eq-eqb n n refl)
 
 noted_by : (b : Bool) (u n : ℕ) (owner : OwnerRef) (mid new : List ℕ) → (u == owner.uid) ≡ b → new ≡ (if b then n ∷ mid else mid) → (is_noted n mid ≡ true) ⊎ ((owner.uid == u || false) ≡ true) → is_noted n new ≡ true

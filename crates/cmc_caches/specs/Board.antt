@@ -13,18 +13,32 @@ use Rattle.cmc_model.specs.Objects.{Objects, no_objects, object_at}
 use Rattle.cmc_model.specs.Replies.{put_at}
 use Rattle.cmc_model.specs.Versions.{uid_of, IsVersion}
 use Rattle.cmc_model.specs.Writes.{contents, kind_eq, of_kind, oldest, write_at}
-use Rattle.cmc_informer.specs.Caches.{is_owned_by, is_targeting}
+use Rattle.cmc_informer.specs.Caches.{is_owned_by, is_targeting, secret_key}
+use Rattle.cmc_caches.specs.Affected.{KeepsKeys, is_among}
 use Rattle.cmc_caches.specs.Lines.{LineTable, is_noted, numbers, numbers_in}
 use Rattle.cmc_caches.specs.Left.{AreAtMost, AreFalling, IsTopped, LeftTable, has_left, numbers_under}
 
+-- the namespace and the name of a Secret
+abbrev pub SecretName : Type 0
+SecretName = List ℕ × List ℕ
+
 -- whether it is a Certificate that names the Secret
-abbrev pub is_of_secret : Key → Option Object → Bool
-is_of_secret secret o = is_targeting secret.namespace secret.name o
+abbrev pub is_of_secret : SecretName → Option Object → Bool
+is_of_secret secret o = is_targeting secret.0 secret.1 o
+
+abbrev pub numbers_for : LineTable → SecretName → List ℕ
+numbers_for table secret = numbers_in table (secret_key secret.0 secret.1)
 
 -- the keys are in order, and each that the test holds of is one of them
 pub record LeadTo (keys : List Key) (P : Key → Bool) : Type 0 where
   pub ordered : IsStrictlySortedBy key_cmp keys
   pub all : (key : Key) → P key ≡ true → list_any (is_at (key_cmp key)) keys ≡ true
+
+-- the keys are in order, and among them are those given and those of the writes of the numbers above the position
+pub record IsJoined (now : List Key) (left : List ℕ) (p : ℕ) (ws : List Write) (keys : List Key) : Type 0 where
+  pub ordered : IsStrictlySortedBy key_cmp keys
+  pub now_kept : KeepsKeys now keys
+  pub left_added : (key : Key) → has_left p left key ws ≡ true → is_among keys key ≡ true
 
 -- ---- one kind
 
@@ -45,7 +59,7 @@ pub record LeadsBack {I : Type 0} (kind : Kind) (finds : I → Option Object →
 pub record IsColumn (kind : Kind) (column : Columned) (n : ℕ) (ws : List Write) : Type 0 where
   pub leaves : column.objects ≡ contents (of_kind kind (oldest n ws))
   pub by_owner : LeadsBack kind is_owned_by column.objects (numbers_under column.owners) n ws
-  pub by_target : LeadsBack kind is_of_secret column.objects (numbers_in column.targets) n ws
+  pub by_target : LeadsBack kind is_of_secret column.objects (numbers_for column.targets) n ws
 
 -- where the test found the object before, and not the one after, the line has the number; else it may have it
 pub record NotesLeft {I : Type 0} (finds : I → Option Object → Bool) (number : ℕ) (before after : Option Object) (old new : I → List ℕ) : Type 0 where
@@ -56,13 +70,13 @@ pub record NotesLeft {I : Type 0} (finds : I → Option Object → Bool) (number
 pub record IsColumnAfter (number : ℕ) (w : Write) (old new : Columned) : Type 0 where
   pub objects : new.objects ≡ put_at old.objects w.key w.object
   pub owners : NotesLeft is_owned_by number (object_at old.objects w.key) w.object (numbers_under old.owners) (numbers_under new.owners)
-  pub targets : NotesLeft is_of_secret number (object_at old.objects w.key) w.object (numbers_in old.targets) (numbers_in new.targets)
+  pub targets : NotesLeft is_of_secret number (object_at old.objects w.key) w.object (numbers_for old.targets) (numbers_for new.targets)
 
 -- a column where memory ran out: what was noted by then does no harm
 pub record IsColumnKept (number : ℕ) (old new : Columned) : Type 0 where
   pub objects : new.objects ≡ old.objects
   pub owners : (uid : ℕ) → IsTopped number (numbers_under old.owners uid) (numbers_under new.owners uid)
-  pub targets : (secret : Key) → IsTopped number (numbers_in old.targets secret) (numbers_in new.targets secret)
+  pub targets : (secret : SecretName) → IsTopped number (numbers_for old.targets secret) (numbers_for new.targets secret)
 
 abbrev pub IsColumnBy : Bool → ℕ → Write → Columned → Columned → Type 0
 IsColumnBy true number w old new = IsColumnAfter number w old new
@@ -76,7 +90,7 @@ IsColumnFailed false number old new = new ≡ old
 pub record IsFirst (column : Columned) : Type 0 where
   pub objects : column.objects ≡ no_objects
   pub owners : (uid : ℕ) → numbers_under column.owners uid ≡ []
-  pub targets : (secret : Key) → numbers_in column.targets secret ≡ []
+  pub targets : (secret : SecretName) → numbers_for column.targets secret ≡ []
 
 -- ---- all kinds
 
@@ -87,6 +101,11 @@ pub record IsBoard (table : LineTable) (certificates requests secrets : Columned
   pub of_certificates : IsColumn Certificate certificates n ws
   pub of_requests : IsColumn CertificateRequest requests n ws
   pub of_secrets : IsColumn Secret secrets n ws
+
+abbrev pub column_of : Kind → Columned → Columned → Columned → Columned
+column_of Certificate c r s = c
+column_of CertificateRequest c r s = r
+column_of Secret c r s = s
 
 -- what the crate itself sees of a board
 pub record Boarded : Type 0 where

@@ -4,16 +4,18 @@ ghost use Rattle.std.specs.Prelude.{◌≡◌, ◌+◌, ◌<◌, ◌≤◌, ◌�
 ghost use Rattle.cmc_meta.specs.declared.key.Kind.TheVariants as kinds;
 ghost use Rattle.cmc_model.specs.Objects.{object_at};
 ghost use Rattle.cmc_model.specs.Writes.{kind_eq};
-ghost use Rattle.cmc_caches.specs.Board.{AreBornWhereNumbered, IsColumnBy, IsColumnFailed, LeadTo, is_of_secret, objects_by};
-ghost use Rattle.cmc_informer.specs.Caches.{has_uid, is_owned_by};
+ghost use Rattle.cmc_caches.specs.Board.{AreBornWhereNumbered, IsColumnBy, IsColumnFailed, LeadTo, column_of, objects_by};
+ghost use Rattle.cmc_caches.specs.Lines.{left_by_write};
+ghost use Rattle.cmc_informer.specs.Caches.{has_uid, is_owned_by, is_targeting};
 ghost use Rattle.cmc_informer.specs.Indexes.{Finds};
 
 use crate::column::Column;
-use crate::joined::{joined, keys_since};
+use crate::joined::joined;
 use crate::lines::Lines;
+use crate::walk::last_until;
 use cmc_held::Log;
 use cmc_informer::Keys;
-use cmc_meta::{Key, Kind};
+use cmc_meta::{Key, Kind, Name};
 use cmc_model::Write;
 use cmc_objects::Object;
 use cmc_seed::HashSeed;
@@ -75,6 +77,40 @@ fn apply_to(
         Kind::Certificate => certificates.take_in(alloc, write, number),
         Kind::CertificateRequest => requests.take_in(alloc, write, number),
         Kind::Secret => secrets.take_in(alloc, write, number),
+    }
+}
+
+/// The object that a write left.
+fn object_of(write: Option<&Write>) -> Option<&Object>
+    ensures { option_copied result ≡ left_by_write (option_copied write.entry) }
+{
+    match write {
+        Some(write) => write.object.as_ref(),
+        None => None,
+    }
+}
+
+fn column_for<'a>(
+    certificates: &'a Column,
+    requests: &'a Column,
+    secrets: &'a Column,
+    kind: Kind,
+) -> &'a Column
+    ensures { result.now ≡ column_of kind certificates.now requests.now secrets.now }
+{
+    match kind {
+        Kind::Certificate => certificates,
+        Kind::CertificateRequest => requests,
+        Kind::Secret => secrets,
+    }
+}
+
+fn has_this_uid(object: Option<&Object>, uid: u64) -> bool
+    ensures { result ≡ has_uid uid (option_copied object.entry) }
+{
+    match object {
+        Some(object) => object.meta().uid == uid,
+        None => false,
     }
 }
 
@@ -157,5 +193,71 @@ impl Board {
             self.take_in(alloc)?;
         }
         Ok(())
+    }
+
+    /// The object of the kind under the key, as the first writes up to the position leave it; `None` exactly where none
+    /// exists. It takes a step for each write of the key after the position.
+    pub(crate) fn get(&self, kind: Kind, position: u64, key: &Key) -> Option<&Object>
+        requires { position ≤ self.now.known }
+        ensures { option_copied result ≡ object_at (objects_by kind position self.now.writes) key.now }
+    {
+        if key.kind != kind {
+            return None;
+        }
+        let number = last_until(self.lines.get(key), position);
+        object_of(self.log.write(number))
+    }
+
+    /// Keys of the kind, in order, among which are those of all objects that have an owner reference of this uid after
+    /// the first writes up to the position.
+    pub(crate) fn owned_by(
+        &self,
+        alloc: Global,
+        kind: Kind,
+        position: u64,
+        uid: u64,
+    ) -> Result<Keys, AllocError>
+        requires { position ≤ self.now.known }
+        ensures { IfOk result (λ keys. LeadTo keys (λ k. is_owned_by uid (object_at (objects_by kind position self.now.writes) k))) }
+    {
+        let column = column_for(&self.certificates, &self.requests, &self.secrets, kind);
+        let now = column.objects().owned_by(alloc, uid)?;
+        joined(alloc, now, &self.log, column.left_owner(uid), position)
+    }
+
+    /// Keys, in order, among which are those of all Certificates of the namespace whose `secretName` is this name after
+    /// the first writes up to the position.
+    pub(crate) fn by_secret(
+        &self,
+        alloc: Global,
+        position: u64,
+        namespace: &Name,
+        name: &Name,
+    ) -> Result<Keys, AllocError>
+        requires { position ≤ self.now.known }
+        ensures { IfOk result (λ keys. LeadTo keys (λ k. is_targeting namespace.now name.now (object_at (objects_by kinds.Certificate position self.now.writes) k))) }
+    {
+        let secret = Key {
+            kind: Kind::Secret,
+            namespace: namespace.copy()?,
+            name: name.copy()?,
+        };
+        let now = self.certificates.objects().by_secret(alloc, namespace, name)?;
+        let left = self.certificates.left_target(&secret);
+        joined(alloc, now, &self.log, left, position)
+    }
+
+    /// The key of the object of the kind that has this uid after the first writes up to the position; `None` exactly
+    /// where none has it. The uid of an object is the number of a write that names its key.
+    pub(crate) fn by_uid(&self, kind: Kind, position: u64, uid: u64) -> Option<&Key>
+        requires known { position ≤ self.now.known }
+        requires born { AreBornWhereNumbered self.now.writes }
+        ensures { Finds (λ k. has_uid uid (object_at (objects_by kind position self.now.writes) k)) (option_copied result) }
+    {
+        let write = self.log.write(uid)?;
+        if has_this_uid(self.get(kind, position, &write.key), uid) {
+            return Some(&write.key);
+        }
+        None
     }
 }

@@ -1,9 +1,8 @@
 //! One kind on the board.
 ghost use Rattle.std.specs.Option.{option_copied};
 ghost use Rattle.std.specs.Prelude.{◌≡◌, ℕ, OnOk, OnErr, Some, reverse, true, false};
-ghost use Rattle.cmc_meta.specs.declared.key.Key.{Key as KeyValue};
 ghost use Rattle.cmc_model.specs.Objects.{object_at};
-ghost use Rattle.cmc_caches.specs.Board.{IsColumnAfter, IsColumnKept, IsFirst, NotesLeft, is_of_secret};
+ghost use Rattle.cmc_caches.specs.Board.{IsColumnAfter, IsColumnKept, IsFirst, NotesLeft, SecretName, is_of_secret, numbers_for};
 ghost use Rattle.cmc_caches.specs.Left.{IsTopped, numbers_under};
 ghost use Rattle.cmc_caches.specs.Lines.{is_noted, numbers_in};
 ghost use Rattle.cmc_informer.specs.Caches.{is_owned_by};
@@ -39,9 +38,13 @@ impl Drop for Column {
 }
 
 impl Model for Column {
+    ghost use Rattle.std.specs.Coded.{codes};
+    ghost use Rattle.cmc_informer.specs.contracts.cache.Cache as cache_row;
     ghost use Rattle.cmc_caches.specs.Board.{Columned};
 
     ghost Value = { Columned };
+
+    ghost coded = { Prim.hlevel (codes, cache_row.the_row.coded) };
 
     ghost view = { λ c. record { objects = c.objects; owners = c.owners; targets = c.targets } };
 }
@@ -68,7 +71,7 @@ fn note_owners(
 
 /// Whether the object is a Certificate that names the same Secret.
 fn names_target(object: Option<&Object>, certificate: &Certificate) -> bool
-    ensures { result ≡ true → (s : KeyValue) → is_of_secret s (Some (Object.Cert certificate.now)) ≡ true → is_of_secret s (option_copied object.entry) ≡ true }
+    ensures { result ≡ true → (s : SecretName) → is_of_secret s (Some (Object.Cert certificate.now)) ≡ true → is_of_secret s (option_copied object.entry) ≡ true }
 {
     match object {
         Some(Object::Cert(other)) => {
@@ -79,6 +82,25 @@ fn names_target(object: Option<&Object>, certificate: &Certificate) -> bool
     }
 }
 
+/// Notes the number under the Secret that the Certificate names, where the object after names another or none.
+fn note_secret(
+    alloc: Global,
+    targets: &mut Lines,
+    certificate: &Certificate,
+    after: Option<&Object>,
+    number: u64,
+) -> Result<(), AllocError>
+    ensures kept { (s : SecretName) → IsTopped number (numbers_for targets.old s) (numbers_for targets.new s) }
+    ensures noted { OnOk result ((s : SecretName) → is_of_secret s (Some (Object.Cert certificate.now)) ≡ true → is_of_secret s (option_copied after.entry) ≡ false → is_noted number (numbers_for targets.new s) ≡ true) }
+{
+    if names_target(after, certificate) {
+        return Ok(());
+    }
+    let secret = target_key(certificate)?;
+    targets.add(alloc, &secret, number)?;
+    Ok(())
+}
+
 /// Notes the number under the Secret that the object before names, where the object after names another or none.
 fn note_target(
     alloc: Global,
@@ -87,17 +109,15 @@ fn note_target(
     after: Option<&Object>,
     number: u64,
 ) -> Result<(), AllocError>
-    ensures kept { (s : KeyValue) → IsTopped number (numbers_in targets.old s) (numbers_in targets.new s) }
-    ensures noted { OnOk result ((s : KeyValue) → is_of_secret s (option_copied before.entry) ≡ true → is_of_secret s (option_copied after.entry) ≡ false → is_noted number (numbers_in targets.new s) ≡ true) }
+    ensures kept { (s : SecretName) → IsTopped number (numbers_for targets.old s) (numbers_for targets.new s) }
+    ensures noted { OnOk result ((s : SecretName) → is_of_secret s (option_copied before.entry) ≡ true → is_of_secret s (option_copied after.entry) ≡ false → is_noted number (numbers_for targets.new s) ≡ true) }
 {
-    let Some(Object::Cert(certificate)) = before else {
-        return Ok(());
-    };
-    if names_target(after, certificate) {
-        return Ok(());
+    match before {
+        Some(Object::Cert(certificate)) => note_secret(alloc, targets, certificate, after, number),
+        Some(Object::Request(_)) => Ok(()),
+        Some(Object::Secret(_)) => Ok(()),
+        None => Ok(()),
     }
-    let secret = target_key(certificate)?;
-    targets.add(alloc, &secret, number)
 }
 
 /// Notes what may leave the indexes as the write is applied.
@@ -110,14 +130,15 @@ fn note_left(
     number: u64,
 ) -> Result<(), AllocError>
     ensures owners_kept { (u : ℕ) → IsTopped number (numbers_under owners.old u) (numbers_under owners.new u) }
-    ensures targets_kept { (s : KeyValue) → IsTopped number (numbers_in targets.old s) (numbers_in targets.new s) }
+    ensures targets_kept { (s : SecretName) → IsTopped number (numbers_for targets.old s) (numbers_for targets.new s) }
     ensures owners { OnOk result (NotesLeft is_owned_by number (object_at objects.now write.now.key) write.now.object (numbers_under owners.old) (numbers_under owners.new)) }
-    ensures targets { OnOk result (NotesLeft is_of_secret number (object_at objects.now write.now.key) write.now.object (numbers_in targets.old) (numbers_in targets.new)) }
+    ensures targets { OnOk result (NotesLeft is_of_secret number (object_at objects.now write.now.key) write.now.object (numbers_for targets.old) (numbers_for targets.new)) }
 {
     let before = objects.get(&write.key);
     let after = write.object.as_ref();
     note_owners(alloc, owners, before, after, number)?;
-    note_target(alloc, targets, before, after, number)
+    note_target(alloc, targets, before, after, number)?;
+    Ok(())
 }
 
 impl Column {
@@ -151,7 +172,8 @@ impl Column {
             write,
             number,
         )?;
-        self.objects.write(alloc, write)
+        self.objects.write(alloc, write)?;
+        Ok(())
     }
 
     /// The objects as the known writes leave them.

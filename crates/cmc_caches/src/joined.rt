@@ -1,11 +1,13 @@
-//! Keys in order, gathered from several places.
+//! The keys that an index leads to at a position.
 ghost use Rattle.std.specs.List.Sorted.{IsStrictlySortedBy};
-ghost use Rattle.std.specs.Prelude.{◌≡◌, ◌||◌, IfOk, OnOk, reverse, true};
+ghost use Rattle.std.specs.Prelude.{◌≡◌, ◌||◌, [], IfOk, OnOk, reverse, true};
 ghost use Rattle.cmc_meta.specs.declared.key.Key.{Key as KeyValue};
-ghost use Rattle.cmc_meta.specs.Keys.{key_cmp};
+ghost use Rattle.cmc_meta.specs.Keys.{key_cmp, key_eq};
 ghost use Rattle.cmc_caches.specs.Affected.{KeepsKeys, is_among};
+ghost use Rattle.cmc_caches.specs.Board.{IsJoined};
 ghost use Rattle.cmc_caches.specs.Left.{AreFalling, has_left};
 
+use crate::walk::has_newer;
 use cmc_held::Log;
 use cmc_informer::Keys;
 use cmc_meta::Key;
@@ -35,7 +37,9 @@ impl Model for Joined {
 
 impl Joined {
     /// No keys. It takes no memory.
-    fn new(alloc: Global) -> Joined {
+    fn new(alloc: Global) -> Joined
+        ensures { result ≡ [] }
+    {
         Joined {
             set: BTreeSet::new(alloc),
         }
@@ -43,7 +47,7 @@ impl Joined {
 
     /// Adds the key.
     fn add(&mut self, key: &Key) -> Result<(), AllocError>
-        ensures { OnOk result ((k : KeyValue) → is_among self.new k ≡ (is_among (key.now ∷ []) k || is_among self.old k)) }
+        ensures { OnOk result ((k : KeyValue) → is_among self.new k ≡ (key_eq key.now k || is_among self.old k)) }
     {
         self.set.insert(key.copy()?)?;
         Ok(())
@@ -89,4 +93,26 @@ impl Joined {
         }
         Ok(keys)
     }
+}
+
+/// The keys in order, with those of the writes of these numbers, the oldest first, that are above the position. Mostly
+/// there is no such number, and they are the keys as given.
+pub(crate) fn joined(
+    alloc: Global,
+    now: Keys,
+    log: &Log,
+    numbers: &[u64],
+    position: u64,
+) -> Result<Keys, AllocError>
+    requires falls { AreFalling (reverse numbers.now) }
+    requires ordered { IsStrictlySortedBy key_cmp now }
+    ensures { IfOk result (λ keys. IsJoined now (reverse numbers.now) position log.now.writes keys) }
+{
+    if !has_newer(numbers, position) {
+        return Ok(now);
+    }
+    let mut all = Joined::new(alloc);
+    all.add_all(now.as_slice())?;
+    all.add_since(log, numbers, position)?;
+    all.to_keys(alloc)
 }
