@@ -12,7 +12,7 @@ use Rattle.cmc_model.specs.Writes.{contents, kind_eq, of_kind, oldest, write_at}
 use Rattle.cmc_model.proofs.Writes.{oldest-none, oldest-older}
 use Rattle.cmc_caches.specs.Lines.{LineTable, last_at, left_by_write, numbers, numbers_in}
 use Rattle.cmc_caches.specs.Left.{numbers_under}
-use Rattle.cmc_caches.specs.Board.{Columned, IsBoard, IsColumn, IsColumnBy, IsColumnFailed, IsFirst, objects_by}
+use Rattle.cmc_caches.specs.Board.{Columned, IsBoard, IsColumn, IsColumnBy, IsColumnFailed, IsFirst, column_of, objects_by}
 use Rattle.cmc_caches.proofs.LastNumbers.{last_known, left_by_number, none_of_other, numbers_more, oldest_count}
 use Rattle.cmc_caches.proofs.Columns.{IsNextWrite, column_first, column_kept, column_more, column_pushed}
 
@@ -89,3 +89,8 @@ answers_of t c r s kind n p key ws low board of =
 
 pub answers_none : (kind : Kind) (p : ℕ) (key : Key) (ws : List Write) → kind_eq key.kind kind ≡ false → None ≡ object_at (objects_by kind p ws) key
 answers_none kind p key ws off = sym (none_of_other kind key (oldest p ws) off)
+
+pub board_column : (t : LineTable) (c r s : Columned) (kind : Kind) (n : ℕ) (ws : List Write) → IsBoard t c r s n ws → IsColumn kind (column_of kind c r s) n ws
+board_column t c r s Certificate n ws board = board.of_certificates
+board_column t c r s CertificateRequest n ws board = board.of_requests
+board_column t c r s Secret n ws board = board.of_secrets

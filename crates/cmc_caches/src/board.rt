@@ -10,7 +10,7 @@ ghost use Rattle.cmc_informer.specs.Caches.{has_uid, is_owned_by, is_targeting};
 ghost use Rattle.cmc_informer.specs.Indexes.{Finds};
 
 use crate::column::Column;
-use crate::joined::joined;
+use crate::gather::joined;
 use crate::lines::Lines;
 use crate::walk::last_until;
 use cmc_held::Log;
@@ -189,7 +189,7 @@ impl Board {
         ensures known { self.old.known ≤ self.new.known }
         ensures ok { OnOk result (to ≤ self.new.known) }
     {
-        for _ in self.known..to {
+        'next: while self.known < to {
             self.take_in(alloc)?;
         }
         Ok(())
@@ -230,21 +230,22 @@ impl Board {
     pub(crate) fn by_secret(
         &self,
         alloc: Global,
+        kind: Kind,
         position: u64,
         namespace: &Name,
         name: &Name,
     ) -> Result<Keys, AllocError>
         requires { position ≤ self.now.known }
-        ensures { IfOk result (λ keys. LeadTo keys (λ k. is_targeting namespace.now name.now (object_at (objects_by kinds.Certificate position self.now.writes) k))) }
+        ensures { IfOk result (λ keys. LeadTo keys (λ k. is_targeting namespace.now name.now (object_at (objects_by kind position self.now.writes) k))) }
     {
         let secret = Key {
             kind: Kind::Secret,
             namespace: namespace.copy()?,
             name: name.copy()?,
         };
-        let now = self.certificates.objects().by_secret(alloc, namespace, name)?;
-        let left = self.certificates.left_target(&secret);
-        joined(alloc, now, &self.log, left, position)
+        let column = column_for(&self.certificates, &self.requests, &self.secrets, kind);
+        let now = column.objects().by_secret(alloc, namespace, name)?;
+        joined(alloc, now, &self.log, column.left_target(&secret), position)
     }
 
     /// The key of the object of the kind that has this uid after the first writes up to the position; `None` exactly

@@ -2,7 +2,6 @@
 ghost use Rattle.std.specs.Option.{option_copied};
 ghost use Rattle.std.specs.Prelude.{◌≡◌, ◌≤◌, IfOk};
 ghost use Rattle.cmc_model.specs.Objects.{object_at};
-ghost use Rattle.cmc_meta.specs.declared.key.Kind.TheVariants as kinds;
 ghost use Rattle.cmc_caches.specs.Board.{AreBornWhereNumbered, LeadTo, shown_by};
 ghost use Rattle.cmc_informer.specs.Caches.{has_uid, is_owned_by, is_targeting};
 ghost use Rattle.cmc_informer.specs.Indexes.{Finds};
@@ -67,10 +66,10 @@ impl<'a> Shown<'a> {
         namespace: &Name,
         name: &Name,
     ) -> Result<Keys, AllocError>
-        requires { self.now.kind ≡ kinds.Certificate }
         ensures { IfOk result (λ keys. LeadTo keys (λ k. is_targeting namespace.now name.now (object_at (shown_by self.now) k))) }
     {
-        self.board.by_secret(alloc, self.position, namespace, name)
+        self.board
+            .by_secret(alloc, self.kind, self.position, namespace, name)
     }
 
     /// The key of the object that has this uid; `None` exactly where none has it.

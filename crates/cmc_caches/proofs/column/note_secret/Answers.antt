@@ -14,8 +14,8 @@ pub returns-in_err-add-clause-kept : goal.returns-in_err-add-clause-kept
 returns-in_err-add-clause-kept c s =
     topped_on c.args.number (numbers_for c.args.targets.now s) (numbers_for c.args.targets.now s) (numbers_for c.add.new.self s) (c.in_err-add.ensures.err _) (topped_same c.args.number (numbers_for c.args.targets.now s))
 
-pub returns-in_ok-add-clause-kept : goal.returns-in_ok-add-clause-kept
-returns-in_ok-add-clause-kept c s = target_kept s c.in_ok-secret.secret c.args.number c.args.targets.now c.add.new.self c.in_ok-add.ensures.ok
+pub returns-clause-kept : goal.returns-clause-kept
+returns-clause-kept c s = target_kept s c.in_ok-secret.secret c.args.number c.args.targets.now c.add.new.self c.in_ok-add.ensures.ok
 
-pub returns-in_ok-add-clause-noted : goal.returns-in_ok-add-clause-noted
-returns-in_ok-add-clause-noted c s on off = target_noted c.args.certificate.now s c.in_ok-secret.secret c.args.number c.args.targets.now c.add.new.self c.in_ok-secret.ensures c.in_ok-add.ensures.ok on
+pub returns-clause-noted : goal.returns-clause-noted
+returns-clause-noted c s on off = target_noted c.args.certificate.now s c.in_ok-secret.secret c.args.number c.args.targets.now c.add.new.self c.in_ok-secret.ensures c.in_ok-add.ensures.ok on

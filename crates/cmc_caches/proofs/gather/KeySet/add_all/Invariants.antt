@@ -1,6 +1,6 @@
 use Rattle.std.proofs.Common.{take}
 use Rattle.cmc_caches.specs.Affected.{KeepsKeys}
-use Rattle.cmc_caches.proofs.joined.Joined.add_all.Given as goal
+use Rattle.cmc_caches.proofs.gather.KeySet.add_all.Given as goal
 
 abbrev pub invariant-loop-key : goal.invariant-loop-key
 invariant-loop-key l = record {

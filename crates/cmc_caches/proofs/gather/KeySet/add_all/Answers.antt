@@ -1,5 +1,5 @@
 use Rattle.cmc_caches.proofs.Joins.{adds_keeps, all_next}
-use Rattle.cmc_caches.proofs.joined.Joined.add_all.Goals as goal
+use Rattle.cmc_caches.proofs.gather.KeySet.add_all.Goals as goal
 
 pub loop-key-preserved : goal.loop-key-preserved
 loop-key-preserved c = record {

@@ -16,31 +16,31 @@ use std::collections::BTreeSet;
 use std::marker::Model;
 
 /// Keys in their order, each once.
-pub(crate) struct Joined {
+pub(crate) struct KeySet {
     set: BTreeSet<Key>,
 }
 
-impl Drop for Joined {
+impl Drop for KeySet {
     fn drop(self) {
-        let Joined { set: _set } = self;
+        let KeySet { set: _set } = self;
     }
 }
 
-impl Model for Joined {
+impl Model for KeySet {
     ghost use Rattle.std.specs.Prelude.{List};
     ghost use Rattle.cmc_meta.specs.declared.key.Key.{Key};
 
     ghost Value = { List Key };
 
-    ghost view = { λ j. j.set.keys };
+    ghost view = { λ k. k.set.keys };
 }
 
-impl Joined {
+impl KeySet {
     /// No keys. It takes no memory.
-    fn new(alloc: Global) -> Joined
+    fn new(alloc: Global) -> KeySet
         ensures { result ≡ [] }
     {
-        Joined {
+        KeySet {
             set: BTreeSet::new(alloc),
         }
     }
@@ -111,7 +111,7 @@ pub(crate) fn joined(
     if !has_newer(numbers, position) {
         return Ok(now);
     }
-    let mut all = Joined::new(alloc);
+    let mut all = KeySet::new(alloc);
     all.add_all(now.as_slice())?;
     all.add_since(log, numbers, position)?;
     all.to_keys(alloc)

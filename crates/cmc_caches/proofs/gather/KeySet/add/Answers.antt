@@ -1,7 +1,7 @@
 use Rattle.std.proofs.Common.{◌∙◌, subst}
 use Rattle.cmc_meta.specs.declared.key.Key.{Key}
 use Rattle.cmc_caches.proofs.Joins.{Adds, key_more}
-use Rattle.cmc_caches.proofs.joined.Joined.add.Goals as goal
+use Rattle.cmc_caches.proofs.gather.KeySet.add.Goals as goal
 
 pub returns : goal.returns
 returns c =

@@ -1,7 +1,7 @@
 use Rattle.cmc_caches.specs.Affected.{KeepsKeys, is_among}
 use Rattle.cmc_caches.specs.Left.{AreFalling}
 use Rattle.cmc_caches.proofs.Walks.{AreWalked, older}
-use Rattle.cmc_caches.proofs.joined.Joined.add_since.Given as goal
+use Rattle.cmc_caches.proofs.gather.KeySet.add_since.Given as goal
 
 abbrev pub invariant-loop-newer : goal.invariant-loop-newer
 invariant-loop-newer l = record {
