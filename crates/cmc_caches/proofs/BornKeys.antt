@@ -9,7 +9,9 @@ use Rattle.cmc_model.specs.Objects.{Objects, object_at}
 use Rattle.cmc_model.specs.Versions.{uid_of, IsVersion}
 use Rattle.cmc_model.specs.Writes.{contents, of_kind, oldest, write_at}
 use Rattle.cmc_model.proofs.Versions.{standing, version_of_kind, version_of_oldest}
+use Rattle.std.specs.Prelude.{if◌then◌else◌}
 use Rattle.cmc_informer.specs.Caches.{has_uid}
+use Rattle.cmc_informer.specs.Indexes.{Finds}
 use Rattle.cmc_caches.specs.Affected.{IsEachUidOfOneKey}
 use Rattle.cmc_caches.specs.Board.{AreBornWhereNumbered, objects_by}
 
@@ -50,3 +52,10 @@ none_other kind p ws uid w born at off key = by (has_uid uid (object_at (objects
       let on : has_uid uid (object_at (objects_by kind p ws) w.key) ≡ true = ap (λ (k : Key). has_uid uid (object_at (objects_by kind p ws) k)) (ap (λ (v : Write). v.key) same ∙ one.2) ∙ is in
       cc (on, off))
   by false is = is
+
+pub finds_born : (kind : Kind) (p : ℕ) (ws : List Write) (uid : ℕ) (w : Write) (found : Option Key) → AreBornWhereNumbered ws → write_at uid ws ≡ Some w
+    → found ≡ (if has_uid uid (object_at (objects_by kind p ws) w.key) then Some w.key else None) → Finds (λ k. has_uid uid (object_at (objects_by kind p ws) k)) found
+finds_born kind p ws uid w found born at is = subst (Finds (λ k. has_uid uid (object_at (objects_by kind p ws) k))) (sym is) (by (has_uid uid (object_at (objects_by kind p ws) w.key)) refl) where
+  by : (b : Bool) → has_uid uid (object_at (objects_by kind p ws) w.key) ≡ b → Finds (λ k. has_uid uid (object_at (objects_by kind p ws) k)) (if b then Some w.key else None)
+  by true has = has
+  by false off = none_other kind p ws uid w born at off

@@ -1,12 +1,12 @@
 //! One board of versions for all roles.
 ghost use Rattle.std.specs.Option.{option_copied};
-ghost use Rattle.std.specs.Prelude.{◌≡◌, ◌+◌, ◌<◌, ◌≤◌, ◌∷◌, [], IfOk, OnOk, OnErr, length};
+ghost use Rattle.std.specs.Prelude.{◌≡◌, ◌+◌, ◌<◌, ◌≤◌, ◌∷◌, [], IfOk, OnOk, OnErr, Some, None, length, if◌then◌else◌};
 ghost use Rattle.cmc_meta.specs.declared.key.Kind.TheVariants as kinds;
 ghost use Rattle.cmc_model.specs.Objects.{object_at};
 ghost use Rattle.cmc_model.specs.Writes.{kind_eq};
 ghost use Rattle.cmc_caches.specs.Board.{AreBornWhereNumbered, IsColumnBy, IsColumnFailed, LeadTo, column_of, objects_by};
 ghost use Rattle.cmc_caches.specs.Lines.{left_by_write};
-ghost use Rattle.cmc_informer.specs.Caches.{has_uid, is_owned_by, is_targeting};
+ghost use Rattle.cmc_informer.specs.Caches.{has_uid, is_owned_by, is_targeting, secret_key};
 ghost use Rattle.cmc_informer.specs.Indexes.{Finds};
 
 use crate::column::Column;
@@ -105,6 +105,16 @@ fn column_for<'a>(
     }
 }
 
+fn key_of_secret(namespace: &Name, name: &Name) -> Result<Key, AllocError>
+    ensures { IfOk result (λ k. k ≡ secret_key namespace.now name.now) }
+{
+    Ok(Key {
+        kind: Kind::Secret,
+        namespace: namespace.copy()?,
+        name: name.copy()?,
+    })
+}
+
 fn has_this_uid(object: Option<&Object>, uid: u64) -> bool
     ensures { result ≡ has_uid uid (option_copied object.entry) }
 {
@@ -201,11 +211,11 @@ impl Board {
         requires { position ≤ self.now.known }
         ensures { option_copied result ≡ object_at (objects_by kind position self.now.writes) key.now }
     {
-        if key.kind != kind {
-            return None;
+        if key.kind == kind {
+            let number = last_until(self.lines.get(key), position);
+            return object_of(self.log.write(number));
         }
-        let number = last_until(self.lines.get(key), position);
-        object_of(self.log.write(number))
+        None
     }
 
     /// Keys of the kind, in order, among which are those of all objects that have an owner reference of this uid after
@@ -238,11 +248,7 @@ impl Board {
         requires { position ≤ self.now.known }
         ensures { IfOk result (λ keys. LeadTo keys (λ k. is_targeting namespace.now name.now (object_at (objects_by kind position self.now.writes) k))) }
     {
-        let secret = Key {
-            kind: Kind::Secret,
-            namespace: namespace.copy()?,
-            name: name.copy()?,
-        };
+        let secret = key_of_secret(namespace, name)?;
         let column = column_for(&self.certificates, &self.requests, &self.secrets, kind);
         let now = column.objects().by_secret(alloc, namespace, name)?;
         joined(alloc, now, &self.log, column.left_target(&secret), position)
@@ -255,9 +261,25 @@ impl Board {
         requires born { AreBornWhereNumbered self.now.writes }
         ensures { Finds (λ k. has_uid uid (object_at (objects_by kind position self.now.writes) k)) (option_copied result) }
     {
-        let write = self.log.write(uid)?;
-        if has_this_uid(self.get(kind, position, &write.key), uid) {
-            return Some(&write.key);
+        match self.log.write(uid) {
+            Some(write) => self.key_with_uid(kind, position, &write.key, uid),
+            None => None,
+        }
+    }
+
+    /// The key, where the object under it has this uid.
+    fn key_with_uid<'a>(
+        &self,
+        kind: Kind,
+        position: u64,
+        key: &'a Key,
+        uid: u64,
+    ) -> Option<&'a Key>
+        requires { position ≤ self.now.known }
+        ensures { option_copied result ≡ (if has_uid uid (object_at (objects_by kind position self.now.writes) key.now) then Some key.now else None) }
+    {
+        if has_this_uid(self.get(kind, position, key), uid) {
+            return Some(key);
         }
         None
     }
