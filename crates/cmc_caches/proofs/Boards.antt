@@ -12,7 +12,7 @@ use Rattle.cmc_model.specs.Writes.{contents, kind_eq, of_kind, oldest, write_at}
 use Rattle.cmc_model.proofs.Writes.{oldest-none, oldest-older}
 use Rattle.cmc_caches.specs.Lines.{LineTable, last_at, left_by_write, numbers, numbers_in}
 use Rattle.cmc_caches.specs.Left.{numbers_under}
-use Rattle.cmc_caches.specs.Board.{Columned, IsBoard, IsColumn, IsColumnBy, IsColumnFailed, IsFirst, column_of, objects_by}
+use Rattle.cmc_caches.specs.Board.{Columned, IsBoard, IsColumn, IsColumnBy, IsColumnFailed, IsEmptyColumn, column_of, objects_by}
 use Rattle.cmc_caches.proofs.LastNumbers.{last_known, left_by_number, none_of_other, numbers_more, oldest_count}
 use Rattle.cmc_caches.proofs.Columns.{IsNextWrite, column_first, column_kept, column_more, column_pushed}
 
@@ -70,7 +70,7 @@ nothing_left : (kind : Kind) (ws : List Write) → no_objects ≡ objects_by kin
 unfolding contents
 nothing_left kind ws = sym (ap (λ (l : List Write). contents (of_kind kind l)) (oldest-none ws))
 
-pub board_first : (t : LineTable) (c r s : Columned) (ws : List Write) → ((k : Key) → numbers_in t k ≡ []) → IsFirst c → IsFirst r → IsFirst s → IsBoard t c r s 0 ws
+pub board_first : (t : LineTable) (c r s : Columned) (ws : List Write) → ((k : Key) → numbers_in t k ≡ []) → IsEmptyColumn c → IsEmptyColumn r → IsEmptyColumn s → IsBoard t c r s 0 ws
 board_first t c r s ws none one two three = record {
   known = omega arith;
   lines = λ k. none k ∙ no_numbers k ws;

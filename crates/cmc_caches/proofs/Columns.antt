@@ -20,7 +20,7 @@ use Rattle.cmc_model.proofs.Versions.{object_at-put}
 use Rattle.cmc_model.proofs.Writes.{oldest-older}
 use Rattle.cmc_informer.proofs.OneMark.{same_key}
 use Rattle.cmc_informer.specs.Caches.{is_owned_by}
-use Rattle.cmc_caches.specs.Lines.{is_noted}
+use Rattle.cmc_caches.specs.Lines.{is_on_line}
 use Rattle.cmc_caches.specs.Left.{AreAtMost, AreFalling, IsTopped, has_left, is_write_of, numbers_under}
 use Rattle.cmc_caches.specs.Board.{Columned, IsColumn, IsColumnAfter, IsColumnBy, IsColumnKept, LeadTo, LeadsBack, NotesLeft, SecretName, is_of_secret, numbers_for, objects_by}
 use Rattle.cmc_caches.proofs.LastNumbers.{contents_more, oldest_count, tie_back, write_newest, write_of_oldest}
@@ -52,7 +52,7 @@ module _ {I : Type 0} (kind : Kind) (finds : I → Option Object → Bool) where
   -- what was found before is found still, or its key is that of the write, and its number is noted
   abbrev pub IsFoundOrNoted : Objects → Objects → (I → List ℕ) → ℕ → List Write → Type 0
   IsFoundOrNoted old new later number ws =
-      (i : I) (key : Key) → finds i (object_at old key) ≡ true → (finds i (object_at new key) ≡ true) ⊎ ((is_noted number (later i) ≡ true) × (is_write_of (write_at number ws) key ≡ true))
+      (i : I) (key : Key) → finds i (object_at old key) ≡ true → (finds i (object_at new key) ≡ true) ⊎ ((is_on_line number (later i) ≡ true) × (is_write_of (write_at number ws) key ≡ true))
 
   -- ---- a write more is known
 
@@ -84,8 +84,8 @@ module _ {I : Type 0} (kind : Kind) (finds : I → Option Object → Bool) where
   }
 
   found_or_noted : (b found : Bool) (old : Objects) (later : I → List ℕ) (n : ℕ) (w : Write) (ws : List Write) (i : I) (key : Key) → n < length ws → IsNextWrite n w ws → is_eq (key_cmp key w.key) ≡ b
-      → finds i w.object ≡ found → (finds i (object_at old w.key) ≡ true → finds i w.object ≡ false → is_noted (n + 1) (later i) ≡ true) → finds i (object_at old key) ≡ true
-      → (finds i (cond b w.object (object_at old key)) ≡ true) ⊎ ((is_noted (n + 1) (later i) ≡ true) × (is_write_of (write_at (n + 1) ws) key ≡ true))
+      → finds i w.object ≡ found → (finds i (object_at old w.key) ≡ true → finds i w.object ≡ false → is_on_line (n + 1) (later i) ≡ true) → finds i (object_at old key) ≡ true
+      → (finds i (cond b w.object (object_at old key)) ≡ true) ⊎ ((is_on_line (n + 1) (later i) ≡ true) × (is_write_of (write_at (n + 1) ws) key ≡ true))
   found_or_noted false found old later n w ws i key low is apart e noted was = inl was
   found_or_noted true true old later n w ws i key low is tie e noted was = inl e
   found_or_noted true false old later n w ws i key low is tie e noted was =
@@ -97,7 +97,7 @@ module _ {I : Type 0} (kind : Kind) (finds : I → Option Object → Bool) where
       led_next old new left later n ws low back leaves notes.kept
       (λ i key was.
       let at : object_at new key ≡ cond (is_eq (key_cmp key w.key)) w.object (object_at old key) = ap (λ (m : Objects). object_at m key) put ∙ object_at-put old w.key w.object key in
-      subst (λ (o : Option Object). (finds i o ≡ true) ⊎ ((is_noted (n + 1) (later i) ≡ true) × (is_write_of (write_at (n + 1) ws) key ≡ true))) (sym at)
+      subst (λ (o : Option Object). (finds i o ≡ true) ⊎ ((is_on_line (n + 1) (later i) ≡ true) × (is_write_of (write_at (n + 1) ws) key ≡ true))) (sym at)
       (found_or_noted (is_eq (key_cmp key w.key)) (finds i w.object) old later n w ws i key low is refl refl (notes.noted i) was))
 
   led_of_other : (objects : Objects) (left : I → List ℕ) (n : ℕ) (ws : List Write) → n < length ws → LeadsBack kind finds objects left n ws → objects ≡ objects_by kind (n + 1) ws

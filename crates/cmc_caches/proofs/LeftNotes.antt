@@ -16,7 +16,7 @@ use Rattle.cmc_informer.specs.Caches.{is_owned_by, secret_key}
 use Rattle.cmc_informer.proofs.OneMark.{key_tie}
 use Rattle.cmc_caches.specs.Affected.{is_uid_among, owner_uids_of}
 use Rattle.cmc_caches.specs.Board.{SecretName, is_of_secret, numbers_for}
-use Rattle.cmc_caches.specs.Lines.{LineTable, is_noted, numbers_in}
+use Rattle.cmc_caches.specs.Lines.{LineTable, is_on_line, numbers_in}
 use Rattle.cmc_caches.specs.Left.{IsTopped}
 use Rattle.cmc_caches.proofs.Topped.{itself, topped_more, topped_same}
 use Rattle.cmc_caches.proofs.Touching.{owner_uids}
@@ -37,10 +37,10 @@ same_keys : (j k : Key) → j ≡ k → key_eq j k ≡ true
 same_keys j k is = subst (λ (x : Key). key_eq j x ≡ true) is (sym (key_tie j j) ∙ ap is_eq (tied_itself key_cmp-total j))
 
 pub target_noted : (c : Certificate) (s : SecretName) (key : Key) (n : ℕ) (old new : LineTable) → key ≡ secret_key c.meta.namespace c.spec.secret_name
-    → ((k : Key) → numbers_in new k ≡ (if key_eq key k then n ∷ numbers_in old k else numbers_in old k)) → is_of_secret s (Some (Cert c)) ≡ true → is_noted n (numbers_for new s) ≡ true
+    → ((k : Key) → numbers_in new k ≡ (if key_eq key k then n ∷ numbers_in old k else numbers_in old k)) → is_of_secret s (Some (Cert c)) ≡ true → is_on_line n (numbers_for new s) ≡ true
 target_noted c s key n old new at put is =
     let k : Key = secret_key s.0 s.1 in
-    ap (is_noted n) (put k ∙ ap (λ (b : Bool). if b then n ∷ numbers_in old k else numbers_in old k) (same_keys key k (at ∙ target_is c s is))) ∙ itself n (numbers_in old k)
+    ap (is_on_line n) (put k ∙ ap (λ (b : Bool). if b then n ∷ numbers_in old k else numbers_in old k) (same_keys key k (at ∙ target_is c s is))) ∙ itself n (numbers_in old k)
 
 pub target_kept : (s : SecretName) (key : Key) (n : ℕ) (old new : LineTable) → ((k : Key) → numbers_in new k ≡ (if key_eq key k then n ∷ numbers_in old k else numbers_in old k)) → IsTopped n (numbers_for old s) (numbers_for new s)
 target_kept s key n old new put =

@@ -1,5 +1,5 @@
 -- Telling a role is a new position of it; a write more changes for no role what it was told of.
-use Rattle.std.proofs.Common.{◌≡◌, ◌∙◌, ℕ, ◌<◌, ◌≤◌, Bool, true, false, List, ◌∷◌, length, ap, refl, subst, sym, arith}
+use Rattle.std.proofs.Common.{◌≡◌, ◌∙◌, ℕ, ◌<◌, ◌≤◌, Bool, true, false, List, [], ◌∷◌, length, zero, suc, ap, refl, subst, sym, arith}
 use Rattle.std.specs.Prelude.{◌==◌, if◌then◌else◌, slice_index_or, slice_set}
 use Rattle.std.proofs.lemmas.Bool.{eqb-true, eq-eqb, true≢false}
 use Rattle.std.proofs.lemmas.Grind.{get_or-set_at}
@@ -12,7 +12,7 @@ use Rattle.cmc_objects.specs.Roles.{role_rank}
 use Rattle.cmc_model.specs.declared.write.Write.{Write}
 use Rattle.cmc_model.specs.Writes.{contents, of_kind, oldest}
 use Rattle.cmc_model.proofs.Writes.{oldest-older}
-use Rattle.cmc_caches.specs.Told.{cache_of, caches_at, with_cached}
+use Rattle.cmc_caches.specs.Told.{cache_of, caches_at, empty_caches, with_cached}
 use Rattle.cmc_caches.specs.Posted.{AreWithin, told_kind, told_of, untold, with_told}
 
 -- as the contract of `tell` has it
@@ -79,3 +79,27 @@ pub started_put : (ws : List Write) (rows : List Positions) (r : Role) (i : ℕ)
     → caches_at ws (told_of (slice_set rows i at) r) ≡ (if b then caches_at ws at else caches_at ws (told_of rows r))
 started_put ws rows r i at true is low = ap (caches_at ws) (position_put rows r i at true is low)
 started_put ws rows r i at false off low = ap (caches_at ws) (position_put rows r i at false off low)
+
+-- ---- no role was told of anything
+
+abbrev pub AreUntold : List Positions → Type 0
+AreUntold [] = Unit {0}
+AreUntold (r ∷ rs) = (r ≡ untold) × AreUntold rs
+
+told_none : (kind : Kind) → told_kind kind untold ≡ 0
+told_none Certificate = refl
+told_none CertificateRequest = refl
+told_none Secret = refl
+
+pub untold_within : (n : ℕ) (rows : List Positions) → AreUntold rows → AreWithin n rows
+untold_within n [] none place kind = omega (arith, told_none kind)
+untold_within n (r ∷ rs) none zero kind = let is : told_kind kind r ≡ 0 = ap (told_kind kind) none.0 ∙ told_none kind in omega (arith, is)
+untold_within n (r ∷ rs) none (suc place) kind = untold_within n rs none.1 place kind
+
+-- where nothing was written, no role was told of an object
+nothing_first : (at : Positions) → caches_at [] at ≡ empty_caches
+unfolding contents oldest
+nothing_first at = refl
+
+pub nothing_told : (ws : List Write) (at : Positions) → ws ≡ [] → caches_at ws at ≡ empty_caches
+nothing_told ws at is = ap (λ (l : List Write). caches_at l at) is ∙ nothing_first at

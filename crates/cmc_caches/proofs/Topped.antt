@@ -11,7 +11,7 @@ use Rattle.cmc_meta.specs.declared.owners.OwnerRef.{OwnerRef}
 use Rattle.cmc_model.specs.declared.write.Write.{Write}
 use Rattle.cmc_model.specs.Writes.{write_at}
 use Rattle.cmc_informer.specs.Caches.{names}
-use Rattle.cmc_caches.specs.Lines.{is_noted}
+use Rattle.cmc_caches.specs.Lines.{is_on_line}
 use Rattle.cmc_caches.specs.Left.{AreAtMost, AreFalling, IsTopped, has_left, is_write_of}
 use Rattle.cmc_caches.proofs.LastNumbers.{write_older}
 
@@ -47,14 +47,14 @@ at_most_more n m (k ∷ ks) fits low = (omega (arith, low.0, fits), at_most_more
 
 -- ---- the number that is noted
 
-noted_here : (b : Bool) (m n p : ℕ) (key : Key) (ws : List Write) (ns : List ℕ) → (n == m) ≡ b → nat_lt p m ≡ true → is_write_of (write_at m ws) key ≡ true → (is_noted m ns ≡ true → has_left p ns key ws ≡ true)
-    → (b || is_noted m ns) ≡ true → ((nat_lt p n && is_write_of (write_at n ws) key) || has_left p ns key ws) ≡ true
+noted_here : (b : Bool) (m n p : ℕ) (key : Key) (ws : List Write) (ns : List ℕ) → (n == m) ≡ b → nat_lt p m ≡ true → is_write_of (write_at m ws) key ≡ true → (is_on_line m ns ≡ true → has_left p ns key ws ≡ true)
+    → (b || is_on_line m ns) ≡ true → ((nat_lt p n && is_write_of (write_at n ws) key) || has_left p ns key ws) ≡ true
 noted_here true m n p key ws ns e above names below is =
     ap (λ (x : ℕ). (nat_lt p x && is_write_of (write_at x ws) key) || has_left p ns key ws) (eqb-true n m e)
     ∙ ap (λ (b : Bool). (b && is_write_of (write_at m ws) key) || has_left p ns key ws) above ∙ ap (λ (b : Bool). b || has_left p ns key ws) names
 noted_here false m n p key ws ns e above names below is = or_right (nat_lt p n && is_write_of (write_at n ws) key) (has_left p ns key ws) (below is)
 
-pub noted_left : (m p : ℕ) (key : Key) (ws : List Write) (ns : List ℕ) → nat_lt p m ≡ true → is_write_of (write_at m ws) key ≡ true → is_noted m ns ≡ true → has_left p ns key ws ≡ true
+pub noted_left : (m p : ℕ) (key : Key) (ws : List Write) (ns : List ℕ) → nat_lt p m ≡ true → is_write_of (write_at m ws) key ≡ true → is_on_line m ns ≡ true → has_left p ns key ws ≡ true
 noted_left m p key ws [] above names is = absurd (cc is)
 noted_left m p key ws (n ∷ ns) above names is = noted_here (n == m) m n p key ws ns refl above names (λ noted. noted_left m p key ws ns above names noted) is
 
@@ -79,17 +79,17 @@ topped_on m old mid new is topped = subst (IsTopped m old) (sym is) topped
 
 -- ---- one owner more
 
-pub itself : (n : ℕ) (ns : List ℕ) → is_noted n (n ∷ ns) ≡ true
-itself n ns = ap (λ (b : Bool). b || is_noted n ns) (eq-eqb n n refl)
+pub itself : (n : ℕ) (ns : List ℕ) → is_on_line n (n ∷ ns) ≡ true
+itself n ns = ap (λ (b : Bool). b || is_on_line n ns) (eq-eqb n n refl)
 
-noted_by : (b : Bool) (u n : ℕ) (owner : OwnerRef) (mid new : List ℕ) → (u == owner.uid) ≡ b → new ≡ (if b then n ∷ mid else mid) → (is_noted n mid ≡ true) ⊎ ((owner.uid == u || false) ≡ true) → is_noted n new ≡ true
-noted_by true u n owner mid new e is had = ap (is_noted n) is ∙ itself n mid
-noted_by false u n owner mid new e is (inl was) = ap (is_noted n) is ∙ was
+noted_by : (b : Bool) (u n : ℕ) (owner : OwnerRef) (mid new : List ℕ) → (u == owner.uid) ≡ b → new ≡ (if b then n ∷ mid else mid) → (is_on_line n mid ≡ true) ⊎ ((owner.uid == u || false) ≡ true) → is_on_line n new ≡ true
+noted_by true u n owner mid new e is had = ap (is_on_line n) is ∙ itself n mid
+noted_by false u n owner mid new e is (inl was) = ap (is_on_line n) is ∙ was
 noted_by false u n owner mid new e is (inr here) =
     absurd (let on : (u == owner.uid) ≡ true = eq-eqb u owner.uid (sym (eqb-true owner.uid u (sym (or-false (owner.uid == u)) ∙ here))) in cc (on, e))
 
 pub noted_next : (owners : List OwnerRef) (i u n : ℕ) (owner : OwnerRef) (mid new : List ℕ) → i < length owners → owner ≡ get_or owners i owner → new ≡ (if u == owner.uid then n ∷ mid else mid)
-    → (names u (take i owners) ≡ true → is_noted n mid ≡ true) → names u (take (i + 1) owners) ≡ true → is_noted n new ≡ true
+    → (names u (take i owners) ≡ true → is_on_line n mid ≡ true) → names u (take (i + 1) owners) ≡ true → is_on_line n new ≡ true
 noted_next owners i u n owner mid new low at is was named =
     let more : take (i + 1) owners ≡ take i owners ++ owner ∷ [] = take_more owners i owner low ∙ ap (λ (o : OwnerRef). take i owners ++ o ∷ []) (sym at) in
     noted_by (u == owner.uid) u n owner mid new refl is

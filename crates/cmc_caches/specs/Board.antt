@@ -15,7 +15,7 @@ use Rattle.cmc_model.specs.Versions.{uid_of, IsVersion}
 use Rattle.cmc_model.specs.Writes.{contents, kind_eq, of_kind, oldest, write_at}
 use Rattle.cmc_informer.specs.Caches.{is_owned_by, is_targeting, secret_key}
 use Rattle.cmc_caches.specs.Affected.{KeepsKeys, is_among}
-use Rattle.cmc_caches.specs.Lines.{LineTable, is_noted, numbers, numbers_in}
+use Rattle.cmc_caches.specs.Lines.{LineTable, is_on_line, numbers, numbers_in}
 use Rattle.cmc_caches.specs.Left.{AreAtMost, AreFalling, IsTopped, LeftTable, has_left, numbers_under}
 
 -- the namespace and the name of a Secret
@@ -64,7 +64,7 @@ pub record IsColumn (kind : Kind) (column : Columned) (n : ℕ) (ws : List Write
 -- where the test found the object before, and not the one after, the line has the number; else it may have it
 pub record NotesLeft {I : Type 0} (finds : I → Option Object → Bool) (number : ℕ) (before after : Option Object) (old new : I → List ℕ) : Type 0 where
   pub kept : (i : I) → IsTopped number (old i) (new i)
-  pub noted : (i : I) → finds i before ≡ true → finds i after ≡ false → is_noted number (new i) ≡ true
+  pub noted : (i : I) → finds i before ≡ true → finds i after ≡ false → is_on_line number (new i) ≡ true
 
 -- a column as the write of this number changes it
 pub record IsColumnAfter (number : ℕ) (w : Write) (old new : Columned) : Type 0 where
@@ -87,7 +87,7 @@ IsColumnFailed true number old new = IsColumnKept number old new
 IsColumnFailed false number old new = new ≡ old
 
 -- nothing is known of it
-pub record IsFirst (column : Columned) : Type 0 where
+pub record IsEmptyColumn (column : Columned) : Type 0 where
   pub objects : column.objects ≡ no_objects
   pub owners : (uid : ℕ) → numbers_under column.owners uid ≡ []
   pub targets : (secret : SecretName) → numbers_for column.targets secret ≡ []

@@ -3,3 +3,4 @@ pub mod Affected
 pub mod Lines
 pub mod Left
 pub mod Board
+pub mod Posted

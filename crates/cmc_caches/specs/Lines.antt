@@ -50,5 +50,5 @@ left_by_write None = None
 left_by_write (Some w) = w.object
 
 -- whether the number is one of these
-abbrev pub is_noted : ℕ → List ℕ → Bool
-is_noted n ns = list_any (λ m. m == n) ns
+abbrev pub is_on_line : ℕ → List ℕ → Bool
+is_on_line n ns = list_any (λ m. m == n) ns

@@ -24,8 +24,8 @@ unfoldable pub told_of : List Positions → Role → Positions
 told_of rows role = slice_index_or rows (role_rank role) untold
 
 -- the objects that the role was told of
-abbrev pub shown_to : Posted → Role → Caches
-shown_to posted role = caches_at posted.writes (told_of posted.told role)
+abbrev pub caches_of : Posted → Role → Caches
+caches_of posted role = caches_at posted.writes (told_of posted.told role)
 
 abbrev pub told_kind : Kind → Positions → ℕ
 told_kind Certificate at = at.certificates

@@ -163,6 +163,7 @@ impl Board {
         ensures writes { self.new.writes ≡ write ∷ self.old.writes }
         ensures spare { self.old.spare ≤ self.new.spare + 1 }
         ensures known { self.new.known ≡ self.old.known }
+        ensures within { self.old.known ≤ length self.old.writes }
     {
         self.log.push(write);
     }

@@ -2,9 +2,9 @@
 ghost use Rattle.std.specs.Option.{option_copied};
 ghost use Rattle.std.specs.Prelude.{◌≡◌, ℕ, OnOk, OnErr, Some, reverse, true, false};
 ghost use Rattle.cmc_model.specs.Objects.{object_at};
-ghost use Rattle.cmc_caches.specs.Board.{IsColumnAfter, IsColumnKept, IsFirst, NotesLeft, SecretName, is_of_secret, numbers_for};
+ghost use Rattle.cmc_caches.specs.Board.{IsColumnAfter, IsColumnKept, IsEmptyColumn, NotesLeft, SecretName, is_of_secret, numbers_for};
 ghost use Rattle.cmc_caches.specs.Left.{IsTopped, numbers_under};
-ghost use Rattle.cmc_caches.specs.Lines.{is_noted, numbers_in};
+ghost use Rattle.cmc_caches.specs.Lines.{is_on_line, numbers_in};
 ghost use Rattle.cmc_informer.specs.Caches.{is_owned_by};
 
 use crate::left::Left;
@@ -58,7 +58,7 @@ fn note_owners(
     number: u64,
 ) -> Result<(), AllocError>
     ensures kept { (u : ℕ) → IsTopped number (numbers_under owners.old u) (numbers_under owners.new u) }
-    ensures noted { OnOk result ((u : ℕ) → is_owned_by u (option_copied before.entry) ≡ true → is_owned_by u (option_copied after.entry) ≡ false → is_noted number (numbers_under owners.new u) ≡ true) }
+    ensures noted { OnOk result ((u : ℕ) → is_owned_by u (option_copied before.entry) ≡ true → is_owned_by u (option_copied after.entry) ≡ false → is_on_line number (numbers_under owners.new u) ≡ true) }
 {
     if have_same_owners(before, after) {
         return Ok(());
@@ -91,7 +91,7 @@ fn note_secret(
     number: u64,
 ) -> Result<(), AllocError>
     ensures kept { (s : SecretName) → IsTopped number (numbers_for targets.old s) (numbers_for targets.new s) }
-    ensures noted { OnOk result ((s : SecretName) → is_of_secret s (Some (Object.Cert certificate.now)) ≡ true → is_of_secret s (option_copied after.entry) ≡ false → is_noted number (numbers_for targets.new s) ≡ true) }
+    ensures noted { OnOk result ((s : SecretName) → is_of_secret s (Some (Object.Cert certificate.now)) ≡ true → is_of_secret s (option_copied after.entry) ≡ false → is_on_line number (numbers_for targets.new s) ≡ true) }
 {
     if names_target(after, certificate) {
         return Ok(());
@@ -110,7 +110,7 @@ fn note_target(
     number: u64,
 ) -> Result<(), AllocError>
     ensures kept { (s : SecretName) → IsTopped number (numbers_for targets.old s) (numbers_for targets.new s) }
-    ensures noted { OnOk result ((s : SecretName) → is_of_secret s (option_copied before.entry) ≡ true → is_of_secret s (option_copied after.entry) ≡ false → is_noted number (numbers_for targets.new s) ≡ true) }
+    ensures noted { OnOk result ((s : SecretName) → is_of_secret s (option_copied before.entry) ≡ true → is_of_secret s (option_copied after.entry) ≡ false → is_on_line number (numbers_for targets.new s) ≡ true) }
 {
     match before {
         Some(Object::Cert(certificate)) => note_secret(alloc, targets, certificate, after, number),
@@ -144,7 +144,7 @@ fn note_left(
 impl Column {
     /// No objects, and all is hashed by the seed. It takes no memory.
     pub(crate) fn new(alloc: Global, seed: HashSeed) -> Column
-        ensures { IsFirst result }
+        ensures { IsEmptyColumn result }
     {
         Column {
             objects: Cache::seeded(alloc, seed),

@@ -1,7 +1,7 @@
 //! What left the index of owners.
 ghost use Rattle.std.specs.Prelude.{◌≡◌, ◌==◌, ◌∷◌, [], ℕ, OnOk, OnErr, if◌then◌else◌, reverse, true};
 ghost use Rattle.cmc_caches.specs.Left.{IsTopped, numbers_under};
-ghost use Rattle.cmc_caches.specs.Lines.{is_noted};
+ghost use Rattle.cmc_caches.specs.Lines.{is_on_line};
 ghost use Rattle.cmc_informer.specs.Caches.{names};
 
 use crate::line::Line;
@@ -65,7 +65,7 @@ impl Left {
         number: u64,
     ) -> Result<(), AllocError>
         ensures kept { (u : ℕ) → IsTopped number (numbers_under self.old u) (numbers_under self.new u) }
-        ensures noted { OnOk result ((u : ℕ) → names u owners.now ≡ true → is_noted number (numbers_under self.new u) ≡ true) }
+        ensures noted { OnOk result ((u : ℕ) → names u owners.now ≡ true → is_on_line number (numbers_under self.new u) ≡ true) }
     {
         for owner in owners {
             self.add(alloc, owner.uid, number)?;

@@ -27,7 +27,7 @@ use Rattle.cmc_held.specs.declared.role_states.RoleState.{RoleState}
 use Rattle.cmc_held.specs.RoleStates.{kind_flag_of}
 use Rattle.cmc_held.specs.Dues.{shown_positions}
 use Rattle.cmc_rules.specs.Sameness.{own_above}
-use Rattle.cmc_caches.proofs.Shown.{views-told}
+use Rattle.cmc_caches.proofs.ViewsTold.{views-told}
 use Rattle.cmc_model.proofs.Writes.{writes_count}
 use Rattle.cmc_moves.specs.declared.moves.Stepped.{Stepped}
 use Rattle.cmc_moves.specs.declared.moves.Stepped.TheVariants.{Done}

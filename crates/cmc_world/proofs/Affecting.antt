@@ -23,7 +23,7 @@ use Rattle.cmc_caches.specs.Affected.{is_among, AreNamed, HaveOwnUids}
 use Rattle.cmc_caches.specs.Affected as affected
 use Rattle.cmc_caches.specs.Told.{caches_at, with_cached}
 use Rattle.cmc_caches.proofs.Births.{legal_uids}
-use Rattle.cmc_caches.proofs.Shown.{views-told}
+use Rattle.cmc_caches.proofs.ViewsTold.{views-told}
 use Rattle.cmc_moves.specs.Answers.{AnswersDelivery}
 use Rattle.cmc_moves.specs.declared.moves.Stepped.TheVariants.{Done}
 use Rattle.cmc_moves.proofs.Tables.{may_deliver}
