@@ -110,9 +110,9 @@ module _ {I : Type 0} (kind : Kind) (finds : I → Option Object → Bool) where
       → LeadsBack kind finds objects later n ws
   led_kept objects left later n ws low back topped = record {
     past = λ i key p fits found. elim (or_cases (finds i (object_at objects key)) (has_left p (left i) key ws) (back.past i key p fits found)) [
-        | inl lives ↦ or_left (finds i (object_at objects key)) (has_left p (later i) key ws) lives
-        | inr had ↦ or_right (finds i (object_at objects key)) (has_left p (later i) key ws) (topped_left (n + 1) (left i) (later i) p key ws (topped i) had)
-      ];
+      | inl lives ↦ or_left (finds i (object_at objects key)) (has_left p (later i) key ws) lives
+      | inr had ↦ or_right (finds i (object_at objects key)) (has_left p (later i) key ws) (topped_left (n + 1) (left i) (later i) p key ws (topped i) had)
+    ];
     falls = λ i. topped_falls (n + 1) (left i) (later i) (back.next i) (back.falls i) (topped i);
     next = λ i. topped_low (n + 1) (n + 1) (left i) (later i) (omega arith) (back.next i) (topped i);
     within = λ i. topped_low (length ws) (n + 1) (left i) (later i) (omega (arith, low)) (back.within i) (topped i);

@@ -22,12 +22,12 @@ use Rattle.cmc_caches.specs.Lines.{last_at, left_by_write, numbers}
 -- the test of a write's key and the test of the look-up agree
 pub tie_back : (a b : Key) → key_eq a b ≡ is_eq (key_cmp b a)
 tie_back a b = elim (cases_Bool (key_eq a b)) [
-    | inl same ↦ subst (λ (x : Key). key_eq a x ≡ is_eq (key_cmp x a)) (equal_key a b same) (sym (key_tie a a))
-    | inr other ↦ elim (cases_Bool (is_eq (key_cmp b a))) [
-        | inl tie ↦ subst (λ (x : Key). key_eq a x ≡ is_eq (key_cmp x a)) (sym (same_key b a tie)) (sym (key_tie a a))
-        | inr off ↦ other ∙ sym off
-      ]
+  | inl same ↦ subst (λ (x : Key). key_eq a x ≡ is_eq (key_cmp x a)) (equal_key a b same) (sym (key_tie a a))
+  | inr other ↦ elim (cases_Bool (is_eq (key_cmp b a))) [
+    | inl tie ↦ subst (λ (x : Key). key_eq a x ≡ is_eq (key_cmp x a)) (sym (same_key b a tie)) (sym (key_tie a a))
+    | inr off ↦ other ∙ sym off
   ]
+]
 
 pub contents_more : (b : Bool) (w : Write) (ws : List Write) → contents (cond b (w ∷ ws) ws) ≡ (if b then put_at (contents ws) w.key w.object else contents ws)
 unfolding contents

@@ -118,10 +118,10 @@ pub tell_put : (ws : List Write) (rows : List Positions) (role r : Role) (i : �
 tell_put ws rows role r i kind to old new low is at so =
     one (i == role_rank r) refl
     ∙ ap (λ (n : ℕ). if n == role_rank r then with_cached kind (contents (of_kind kind (oldest to ws))) (caches_at ws (told_of rows role)) else caches_at ws (told_of rows r)) is where
-  one : (b : Bool) → (i == role_rank r) ≡ b → caches_at ws (told_of (slice_set rows i new) r)
-      ≡ (if b then with_cached kind (contents (of_kind kind (oldest to ws))) (caches_at ws (told_of rows role)) else caches_at ws (told_of rows r))
-  one true e = ap (caches_at ws) (position_put rows r i new true e low ∙ so ∙ ap (with_told kind to) (sym at)) ∙ told_more kind to ws (told_of rows role)
-  one false e = ap (caches_at ws) (position_put rows r i new false e low)
+      one : (b : Bool) → (i == role_rank r) ≡ b → caches_at ws (told_of (slice_set rows i new) r)
+          ≡ (if b then with_cached kind (contents (of_kind kind (oldest to ws))) (caches_at ws (told_of rows role)) else caches_at ws (told_of rows r))
+      one true e = ap (caches_at ws) (position_put rows r i new true e low ∙ so ∙ ap (with_told kind to) (sym at)) ∙ told_more kind to ws (told_of rows role)
+      one false e = ap (caches_at ws) (position_put rows r i new false e low)
 
 pub start_put : (ws : List Write) (rows : List Positions) (role r : Role) (i : ℕ) (at : Positions) → i < length rows → i ≡ role_rank role
     → caches_at ws (told_of (slice_set rows i at) r) ≡ (if role_eq role r then caches_at ws at else caches_at ws (told_of rows r))

@@ -74,8 +74,8 @@ all_above at ns ws newer n d test low is below falls walked key had =
     elim (walked key had) [
       | inl on ↦ on
       | inr left ↦ absurd (let off : has_left at (older ns newer) key ws ≡ false =
-            ap (λ (l : List ℕ). has_left at l key ws) (older_next ns newer d low ∙ ap (λ (m : ℕ). m ∷ older ns (newer + 1)) is)
-            ∙ no_more at n key ws (older ns (newer + 1)) below (falls_next ns newer n d low is falls).0 in cc (off, left))
+          ap (λ (l : List ℕ). has_left at l key ws) (older_next ns newer d low ∙ ap (λ (m : ℕ). m ∷ older ns (newer + 1)) is)
+          ∙ no_more at n key ws (older ns (newer + 1)) below (falls_next ns newer n d low is falls).0 in cc (off, left))
     ]
 
 pub all_walked : (at : ℕ) (ns : List ℕ) (ws : List Write) (newer : ℕ) (test : Key → Bool) → length ns ≤ newer → AreWalked at ns ws newer test → (key : Key) → has_left at (reverse ns) key ws ≡ true → test key ≡ true
@@ -95,18 +95,18 @@ walked_more at ns ws newer n d old new low is keeps adds walked key had =
     elim (walked key had) [
       | inl on ↦ inl (keeps key on)
       | inr left ↦ elim (or_cases (nat_lt at n && is_write_of (write_at n ws) key) (has_left at (older ns (newer + 1)) key ws)
-            (sym (ap (λ (l : List ℕ). has_left at l key ws) (older_next ns newer d low ∙ ap (λ (m : ℕ). m ∷ older ns (newer + 1)) is)) ∙ left)) [
-          | inl here ↦ inl (adds key (and_right (nat_lt at n) (is_write_of (write_at n ws) key) here))
-          | inr there ↦ inr there
-        ]
+          (sym (ap (λ (l : List ℕ). has_left at l key ws) (older_next ns newer d low ∙ ap (λ (m : ℕ). m ∷ older ns (newer + 1)) is)) ∙ left)) [
+            | inl here ↦ inl (adds key (and_right (nat_lt at n) (is_write_of (write_at n ws) key) here))
+            | inr there ↦ inr there
+          ]
     ]
 
 pub none_at_all : (at : ℕ) (ns : List ℕ) (key : Key) (ws : List Write) → length ns ≡ 0 → has_left at (reverse ns) key ws ≡ false
 none_at_all at ns key ws none =
     ap (λ (l : List ℕ). has_left at (reverse l) key ws) (empty ns none) where
-  empty : (ms : List ℕ) → length ms ≡ 0 → ms ≡ []
-  empty [] is = refl
-  empty (m ∷ ms) is = absurd (omega (arith, is))
+      empty : (ms : List ℕ) → length ms ≡ 0 → ms ≡ []
+      empty [] is = refl
+      empty (m ∷ ms) is = absurd (omega (arith, is))
 
 -- the newest is not above the position
 pub none_newer : (at : ℕ) (ns : List ℕ) (key : Key) (ws : List Write) → 0 < length ns → AreFalling (reverse ns) → get_or ns (length ns - 1) 0 ≤ at → has_left at (reverse ns) key ws ≡ false

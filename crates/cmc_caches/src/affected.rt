@@ -7,8 +7,8 @@ ghost use Rattle.cmc_caches.specs.Told.{cache_of, with_cached};
 ghost use Rattle.cmc_caches.specs.Affected.{AreNamed, KeepsKeys, SeesSame, SeesSameNext, SeesSameRequests, SeesSameTarget, ExistUnderNamed, left_by};
 ghost use Rattle.cmc_caches.specs.Board.{AreBornWhereNumbered, shown_by};
 
-use crate::shown::Shown;
 use crate::listed::{add_naming_all, add_with_uids};
+use crate::shown::Shown;
 use crate::touched::{touched_owners, written_keys};
 use cmc_meta::{Key, Kind};
 use cmc_model::Write;

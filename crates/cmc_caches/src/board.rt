@@ -139,6 +139,11 @@ impl Board {
         }
     }
 
+    /// What keys and uids are hashed by.
+    pub(crate) fn seed(&self) -> HashSeed {
+        self.certificates.objects().seed()
+    }
+
     /// The accepted writes.
     pub(crate) fn log(&self) -> &Log
         ensures writes { result.now.writes ≡ self.now.writes }
@@ -269,13 +274,7 @@ impl Board {
     }
 
     /// The key, where the object under it has this uid.
-    fn key_with_uid<'a>(
-        &self,
-        kind: Kind,
-        position: u64,
-        key: &'a Key,
-        uid: u64,
-    ) -> Option<&'a Key>
+    fn key_with_uid<'a>(&self, kind: Kind, position: u64, key: &'a Key, uid: u64) -> Option<&'a Key>
         requires { position ≤ self.now.known }
         ensures { option_copied result ≡ (if has_uid uid (object_at (objects_by kind position self.now.writes) key.now) then Some key.now else None) }
     {

@@ -75,7 +75,15 @@ fn put_told(at: Positions, kind: Kind, to: u64) -> Positions
 }
 
 impl Caches {
-    /// No writes, and no role was told of anything; keys and uids are hashed by the seed.
+    /// No writes, and no role was told of anything.
+    pub fn new(alloc: Global) -> Result<Caches, AllocError>
+        ensures writes { IfOk result (λ c. c.writes ≡ []) }
+        ensures told { IfOk result (λ c. (r : RoleValue) → caches_of c r ≡ empty_caches) }
+    {
+        Caches::seeded(alloc, HashSeed::fixed())
+    }
+
+    /// The same, where keys and uids are hashed by the seed.
     pub fn seeded(alloc: Global, seed: HashSeed) -> Result<Caches, AllocError>
         ensures writes { IfOk result (λ c. c.writes ≡ []) }
         ensures told { IfOk result (λ c. (r : RoleValue) → caches_of c r ≡ empty_caches) }
@@ -90,6 +98,11 @@ impl Caches {
             board: Board::new(alloc, seed),
             rows,
         })
+    }
+
+    /// What keys and uids are hashed by.
+    pub fn seed(&self) -> HashSeed {
+        self.board.seed()
     }
 
     /// The accepted writes.
@@ -123,13 +136,7 @@ impl Caches {
 
     /// Tells the role of the writes of the kind up to the version, and no other role of anything. An `Err` says that
     /// memory ran out, and leaves all as it was.
-    pub fn tell(
-        &mut self,
-        alloc: Global,
-        role: Role,
-        kind: Kind,
-        to: u64,
-    ) -> Result<(), AllocError>
+    pub fn tell(&mut self, alloc: Global, role: Role, kind: Kind, to: u64) -> Result<(), AllocError>
         requires { to ≤ length self.old.writes }
         ensures writes { self.new.writes ≡ self.old.writes }
         ensures spare { self.new.spare ≡ self.old.spare }

@@ -54,7 +54,10 @@ fn certificate_at(objects: &Shown<'_>, key: &Key) -> Result<Option<Shared<Certif
     }
 }
 
-fn request_at(objects: &Shown<'_>, key: &Key) -> Result<Option<Shared<CertificateRequest>>, AllocError>
+fn request_at(
+    objects: &Shown<'_>,
+    key: &Key,
+) -> Result<Option<Shared<CertificateRequest>>, AllocError>
     ensures { IfOk result (λ r. r ≡ seen.request_at (shown_by objects.now) key.now) }
 {
     match objects.get(key) {
@@ -250,7 +253,11 @@ fn owned_under(
 }
 
 /// The Secrets with a next private key of the Certificate: of what names its uid as an owner, those.
-fn next_of(alloc: Global, objects: &Shown<'_>, certificate: &Certificate) -> Result<Secrets, AllocError>
+fn next_of(
+    alloc: Global,
+    objects: &Shown<'_>,
+    certificate: &Certificate,
+) -> Result<Secrets, AllocError>
     ensures { IfOk result (λ s. s ≡ seen.next_of (shown_by objects.now) certificate.now) }
 {
     let label = Text::from_str(alloc, "cert-manager.io/next-private-key")?;

@@ -12,9 +12,9 @@ returns-then-have_same_owners-clause-kept c u = topped_same c.args.number (numbe
 pub returns-then-have_same_owners-clause-noted : goal.returns-then-have_same_owners-clause-noted
 returns-then-have_same_owners-clause-noted c u on off =
     absurd (
-        let same : is_owned_by u (option_copied c.args.before) ≡ is_owned_by u (option_copied c.args.after) =
-        owned_alike (option_copied c.args.before) (option_copied c.args.after) u (c.have_same_owners.ensures c.if-have_same_owners.true) in
-        cc (same, on, off))
+    let same : is_owned_by u (option_copied c.args.before) ≡ is_owned_by u (option_copied c.args.after) =
+    owned_alike (option_copied c.args.before) (option_copied c.args.after) u (c.have_same_owners.ensures c.if-have_same_owners.true) in
+    cc (same, on, off))
 
 pub returns-in-None-clause-kept : goal.returns-in-None-clause-kept
 returns-in-None-clause-kept c u = topped_same c.args.number (numbers_under c.args.owners.now u)

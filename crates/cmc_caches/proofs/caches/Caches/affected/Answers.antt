@@ -36,9 +36,10 @@ affected_on-requires-clause-above c =
 
 pub affected_on-requires-clause-named : goal.affected_on-requires-clause-named
 affected_on-requires-clause-named c =
-    stand_under_named kinds.Certificate c.as_slice.result.now (shown_by c.new-certificates.result)
-    (c.index-at.result.now.certificates,
-    ap shown_by c.new-certificates.ensures ∙ ap (objects_by kinds.Certificate c.index-at.result.now.certificates) (sym (c.as_slice.ensures ∙ c.log.ensures.writes)))
+    stand_under_named kinds.Certificate c.as_slice.result.now (shown_by c.new-certificates.result) (
+      c.index-at.result.now.certificates,
+      ap shown_by c.new-certificates.ensures ∙ ap (objects_by kinds.Certificate c.index-at.result.now.certificates) (sym (c.as_slice.ensures ∙ c.log.ensures.writes)),
+    )
 
 pub affected_on-requires-clause-born : goal.affected_on-requires-clause-born
 affected_on-requires-clause-born c =

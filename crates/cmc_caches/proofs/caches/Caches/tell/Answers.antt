@@ -12,11 +12,12 @@ use Rattle.cmc_caches.proofs.caches.Caches.tell.Goals as goal
 
 pub invariant_of-self-2 : goal.invariant_of-self-2
 invariant_of-self-2 c =
-    let low : c.rank-place.result < length c.self.inside.rows.items = omega (arith, c.rank-place.ensures, rank_low c.args.role, c.self.invariant.0) in
-    (length-set c.self.inside.rows.items c.rank-place.result c.put_told.result ∙ c.self.invariant.0,
-    within_told c.catch_up.new.self.known c.rank-place.result c.args.kind c.args.to c.self.inside.rows.items c.index.result.now c.put_told.result c.in_ok-catch_up.ensures.ok low
-    (c.index.ensures ∙ get_or_default c.self.inside.rows.items c.rank-place.result c.index.result.now untold low) c.put_told.ensures
-    (within_more c.self.inside.board.known c.catch_up.new.self.known c.self.inside.rows.items c.catch_up.ensures.known c.self.invariant.1))
+    let low : c.rank-place.result < length c.self.inside.rows.items = omega (arith, c.rank-place.ensures, rank_low c.args.role, c.self.invariant.0) in (
+      length-set c.self.inside.rows.items c.rank-place.result c.put_told.result ∙ c.self.invariant.0,
+      within_told c.catch_up.new.self.known c.rank-place.result c.args.kind c.args.to c.self.inside.rows.items c.index.result.now c.put_told.result c.in_ok-catch_up.ensures.ok low
+          (c.index.ensures ∙ get_or_default c.self.inside.rows.items c.rank-place.result c.index.result.now untold low) c.put_told.ensures
+          (within_more c.self.inside.board.known c.catch_up.new.self.known c.self.inside.rows.items c.catch_up.ensures.known c.self.invariant.1),
+    )
 
 pub returns-clause-ok : goal.returns-clause-ok
 returns-clause-ok c r =
