@@ -1,17 +1,15 @@
 -- A board after one more write is known or accepted, where memory ran out, and what it answers at a position.
-use Rattle.std.proofs.Common.{◌≡◌, ℕ, ◌+◌, ◌≤◌, ◌<◌, List, [], ◌∷◌, length, Bool, true, false, Option, Some, None, refl, sym, ap, subst, ◌∙◌, arith}
+use Rattle.std.proofs.Common.{◌≡◌, ℕ, ◌+◌, ◌≤◌, ◌<◌, List, [], ◌∷◌, length, Bool, true, false, None, refl, sym, ap, subst, ◌∙◌, arith}
 use Rattle.std.specs.Prelude.{if◌then◌else◌}
 use Rattle.cmc_meta.specs.declared.key.Key.{Key}
 use Rattle.cmc_meta.specs.declared.key.Kind.{Kind}
 use Rattle.cmc_meta.specs.declared.key.Kind.TheVariants.{Certificate, CertificateRequest, Secret}
 use Rattle.cmc_meta.specs.Keys.{key_eq}
-use Rattle.cmc_objects.specs.declared.object.Object.{Object}
 use Rattle.cmc_model.specs.declared.write.Write.{Write}
 use Rattle.cmc_model.specs.Objects.{no_objects, object_at}
 use Rattle.cmc_model.specs.Writes.{contents, kind_eq, of_kind, oldest, write_at}
 use Rattle.cmc_model.proofs.Writes.{oldest-none, oldest-older}
 use Rattle.cmc_caches.specs.Lines.{LineTable, last_at, left_by_write, numbers, numbers_in}
-use Rattle.cmc_caches.specs.Left.{numbers_under}
 use Rattle.cmc_caches.specs.Board.{Columned, IsBoard, IsColumn, IsColumnBy, IsColumnFailed, IsEmptyColumn, column_of, objects_by}
 use Rattle.cmc_caches.proofs.LastNumbers.{last_known, left_by_number, none_of_other, numbers_more, oldest_count}
 use Rattle.cmc_caches.proofs.Columns.{IsNextWrite, column_first, column_kept, column_more, column_pushed}

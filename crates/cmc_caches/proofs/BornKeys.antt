@@ -1,13 +1,13 @@
 -- The uid of an object is the number of a write that names its key: so no uid is that of objects under two keys.
-use Rattle.std.proofs.Common.{◌≡◌, ◌⊎◌, ℕ, ◌≤◌, List, [], ◌∷◌, length, true, false, Bool, Option, Some, None, refl, sym, ap, ◌∙◌, subst, inl, inr}
+use Rattle.std.proofs.Common.{◌≡◌, ℕ, List, true, false, Bool, Option, Some, None, refl, sym, ap, ◌∙◌, subst}
 use Rattle.std.proofs.lemmas.Bool.{eqb-true}
 use Rattle.cmc_meta.specs.declared.key.Key.{Key}
 use Rattle.cmc_meta.specs.declared.key.Kind.{Kind}
 use Rattle.cmc_objects.specs.declared.object.Object.{Object}
 use Rattle.cmc_model.specs.declared.write.Write.{Write}
-use Rattle.cmc_model.specs.Objects.{Objects, object_at}
+use Rattle.cmc_model.specs.Objects.{object_at}
 use Rattle.cmc_model.specs.Versions.{uid_of, IsVersion}
-use Rattle.cmc_model.specs.Writes.{contents, of_kind, oldest, write_at}
+use Rattle.cmc_model.specs.Writes.{of_kind, oldest, write_at}
 use Rattle.cmc_model.proofs.Versions.{standing, version_of_kind, version_of_oldest}
 use Rattle.std.specs.Prelude.{if◌then◌else◌}
 use Rattle.cmc_informer.specs.Caches.{has_uid}

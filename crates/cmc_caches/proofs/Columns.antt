@@ -6,11 +6,11 @@ use Rattle.std.specs.List.{list_any}
 use Rattle.std.specs.List.Sorted.{IsStrictlySortedBy}
 use Rattle.std.specs.Ordering.{is_eq}
 use Rattle.std.proofs.Math.Bool.{or-true}
-use Rattle.std.proofs.lemmas.Bool.{cases_Bool, or_cases}
+use Rattle.std.proofs.lemmas.Bool.{or_cases}
 use Rattle.std.proofs.lemmas.Bool.Decides.{nat_tests}
 use Rattle.cmc_meta.specs.declared.key.Key.{Key}
 use Rattle.cmc_meta.specs.declared.key.Kind.{Kind}
-use Rattle.cmc_meta.specs.Keys.{key_cmp, key_eq}
+use Rattle.cmc_meta.specs.Keys.{key_cmp}
 use Rattle.cmc_objects.specs.declared.object.Object.{Object}
 use Rattle.cmc_model.specs.declared.write.Write.{Write}
 use Rattle.cmc_model.specs.Objects.{Objects, object_at}
@@ -22,7 +22,7 @@ use Rattle.cmc_informer.proofs.OneMark.{same_key}
 use Rattle.cmc_informer.specs.Caches.{is_owned_by}
 use Rattle.cmc_caches.specs.Lines.{is_on_line}
 use Rattle.cmc_caches.specs.Left.{AreAtMost, AreFalling, IsTopped, has_left, is_write_of, numbers_under}
-use Rattle.cmc_caches.specs.Board.{Columned, IsColumn, IsColumnAfter, IsColumnBy, IsColumnKept, LeadTo, LeadsBack, NotesLeft, SecretName, is_of_secret, numbers_for, objects_by}
+use Rattle.cmc_caches.specs.Board.{Columned, IsColumn, IsColumnBy, IsColumnKept, LeadTo, LeadsBack, NotesLeft, SecretName, is_of_secret, numbers_for, objects_by}
 use Rattle.cmc_caches.proofs.LastNumbers.{contents_more, oldest_count, tie_back, write_newest, write_of_oldest}
 use Rattle.cmc_caches.proofs.Topped.{at_most_more, left_pushed, noted_left, topped_falls, topped_left, topped_low, topped_same}
 

@@ -10,7 +10,6 @@ use Rattle.std.proofs.lemmas.List.{take_more}
 use Rattle.std.proofs.lemmas.List.Folds.{list_any-append}
 use Rattle.cmc_meta.specs.declared.key.Key.{Key}
 use Rattle.cmc_meta.specs.Keys.{key_cmp, key_eq}
-use Rattle.cmc_model.specs.declared.write.Write.{Write}
 use Rattle.cmc_caches.specs.Affected.{KeepsKeys, is_among}
 use Rattle.cmc_caches.proofs.LastNumbers.{tie_back}
 

@@ -1,5 +1,5 @@
 -- The keys to which a column leads: those of its indexes now, with those that left them since.
-use Rattle.std.proofs.Common.{◌≡◌, ℕ, ◌≤◌, List, true, sym, ap, subst, ◌∙◌}
+use Rattle.std.proofs.Common.{◌≡◌, ℕ, ◌≤◌, List, sym, ap, subst, ◌∙◌}
 use Rattle.cmc_meta.specs.declared.key.Key.{Key}
 use Rattle.cmc_meta.specs.declared.key.Kind.{Kind}
 use Rattle.cmc_model.specs.declared.write.Write.{Write}

@@ -1,5 +1,5 @@
 -- The write in its place is the next that is to be known.
-use Rattle.std.proofs.Common.{◌≡◌, ℕ, ◌+◌, ◌<◌, get_or, List, ◌∷◌, length, reverse, sym, ap, subst, ◌∙◌, arith}
+use Rattle.std.proofs.Common.{◌≡◌, ℕ, ◌<◌, get_or, List, ◌∷◌, length, reverse, sym, ap, subst, ◌∙◌, arith}
 use Rattle.std.proofs.lemmas.List.{length-reverse}
 use Rattle.cmc_model.specs.declared.write.Write.{Write}
 use Rattle.cmc_model.specs.Writes.{oldest}

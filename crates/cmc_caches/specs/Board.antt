@@ -1,5 +1,5 @@
 -- The board: the accepted writes, and of each kind what they leave with what left its indexes.
-use Rattle.std.specs.Prelude.{◌≡◌, ℕ, ◌+◌, ◌≤◌, ◌||◌, Bool, true, false, List, [], ◌∷◌, length, Option, Some}
+use Rattle.std.specs.Prelude.{◌≡◌, ℕ, ◌+◌, ◌≤◌, ◌||◌, Bool, true, false, List, [], length, Option, Some}
 use Rattle.std.specs.BTreeMap.{is_at}
 use Rattle.std.specs.List.{list_any}
 use Rattle.std.specs.List.Sorted.{IsStrictlySortedBy}
@@ -12,7 +12,7 @@ use Rattle.cmc_model.specs.declared.write.Write.{Write}
 use Rattle.cmc_model.specs.Objects.{Objects, no_objects, object_at}
 use Rattle.cmc_model.specs.Replies.{put_at}
 use Rattle.cmc_model.specs.Versions.{uid_of, IsVersion}
-use Rattle.cmc_model.specs.Writes.{contents, kind_eq, of_kind, oldest, write_at}
+use Rattle.cmc_model.specs.Writes.{contents, of_kind, oldest, write_at}
 use Rattle.cmc_informer.specs.Caches.{is_owned_by, is_targeting, secret_key}
 use Rattle.cmc_caches.specs.Affected.{KeepsKeys, is_among}
 use Rattle.cmc_caches.specs.Lines.{LineTable, is_on_line, numbers, numbers_in}

@@ -1,4 +1,3 @@
-use Rattle.std.proofs.Common.{sym}
 use Rattle.cmc_caches.specs.Board.{numbers_for}
 use Rattle.cmc_caches.proofs.LeftNotes.{target_kept, target_noted}
 use Rattle.cmc_caches.proofs.Topped.{topped_on, topped_same}

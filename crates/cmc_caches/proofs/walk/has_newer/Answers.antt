@@ -1,4 +1,4 @@
-use Rattle.std.proofs.Common.{◌≡◌, false, arith, refl}
+use Rattle.std.proofs.Common.{arith}
 use Rattle.std.proofs.lemmas.Bool.Decides.{nat_tests}
 use Rattle.cmc_caches.proofs.Walks.{none_at_all, none_newer}
 use Rattle.cmc_caches.proofs.walk.has_newer.Goals as goal

@@ -1,4 +1,4 @@
-use Rattle.std.proofs.Common.{◌∙◌, subst}
+use Rattle.std.proofs.Common.{subst}
 use Rattle.cmc_meta.specs.declared.key.Key.{Key}
 use Rattle.cmc_caches.proofs.Joins.{Adds, key_more}
 use Rattle.cmc_caches.proofs.gather.KeySet.add.Goals as goal
