@@ -22,7 +22,7 @@ use Rattle.cmc_model.specs.Writes.{is_known, kind_eq, of_kind, oldest}
 use Rattle.cmc_meta.proofs.KeyOrder.{key_cmp-total}
 use Rattle.cmc_model.proofs.Versions.{standing}
 use Rattle.cmc_objects.specs.Informers.{kind_of_work, looks_at_next, looks_at_requests, looks_at_secret, works_on_requests}
-use Rattle.cmc_informer.specs.Caches.{has_uid}
+use Rattle.cmc_informer.specs.Caches.{has_uid, is_targeting}
 use Rattle.cmc_informer.proofs.OneMark.{key_tie, same_key}
 use Rattle.cmc_caches.specs.Affected.{AddsExisting, AreLeft, AreNamed, ExistUnderNamed, is_among}
 use Rattle.cmc_model.proofs.Versions.{version_of_kind, version_of_oldest}
@@ -106,6 +106,10 @@ adds_last m old new last is stands k among =
 pub stands_with_uid : (uid : ℕ) (o : Option Object) → has_uid uid o ≡ true → is_some o ≡ true
 stands_with_uid uid None is = is
 stands_with_uid uid (Some x) is = refl
+
+pub stands_targeting : (namespace name : List ℕ) (o : Option Object) → is_targeting namespace name o ≡ true → is_some o ≡ true
+stands_targeting namespace name None is = absurd (cc is)
+stands_targeting namespace name (Some x) is = refl
 
 -- ---- the role's work
 

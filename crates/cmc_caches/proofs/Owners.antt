@@ -1,5 +1,5 @@
 -- What a Certificate owns stands under the keys that its uid leads to.
-use Rattle.std.proofs.Common.{◌≡◌, Bool, true, false, List, Option, Some, None, refl, ◌∙◌}
+use Rattle.std.proofs.Common.{◌≡◌, Bool, true, false, List, Option, Some, None, refl}
 use Rattle.std.proofs.lemmas.Bool.{and_parts}
 use Rattle.std.specs.Prelude.{◌&&◌, filter_map, option_and_then, is_some, if◌then◌else◌}
 use Rattle.cmc_meta.specs.declared.key.Key.{Key}
@@ -10,7 +10,7 @@ use Rattle.cmc_objects.specs.declared.object.Object.TheVariants.{Cert, Request, 
 use Rattle.cmc_model.specs.Objects.{Objects, object_at}
 use Rattle.cmc_rules.specs.Views.{is_owned, has_next_label, next_in, owned_in, next_of, requests_of}
 use Rattle.cmc_informer.specs.Caches.{is_owned_by, names}
-use Rattle.cmc_informer.specs.Indexes.{AreKeys}
+use Rattle.cmc_caches.specs.Board.{LeadTo}
 use Rattle.cmc_caches.proofs.Picking.{picked_by_keys}
 
 -- who is owned names the uid
@@ -33,10 +33,10 @@ owned_named c (Some (Cert other)) is = absurd (cc is)
 owned_named c (Some (Request r)) is = names_uid c r.meta (if_some (is_owned c r.meta) r is)
 owned_named c (Some (Secret s)) is = absurd (cc is)
 
-pub next_by_keys : (m : Objects) (c : Certificate) (keys : List Key) → AreKeys keys (λ k. is_owned_by c.meta.uid (object_at m k))
+pub next_by_keys : (m : Objects) (c : Certificate) (keys : List Key) → LeadTo keys (λ k. is_owned_by c.meta.uid (object_at m k))
     → filter_map (λ k. option_and_then (next_in c) (object_at m k)) keys ≡ next_of m c
-next_by_keys m c keys are = picked_by_keys (next_in c) m keys are.ordered (λ k is. are.exact k ∙ next_named c (object_at m k) is)
+next_by_keys m c keys are = picked_by_keys (next_in c) m keys are.ordered (λ k is. are.all k (next_named c (object_at m k) is))
 
-pub requests_by_keys : (m : Objects) (c : Certificate) (keys : List Key) → AreKeys keys (λ k. is_owned_by c.meta.uid (object_at m k))
+pub requests_by_keys : (m : Objects) (c : Certificate) (keys : List Key) → LeadTo keys (λ k. is_owned_by c.meta.uid (object_at m k))
     → filter_map (λ k. option_and_then (owned_in c) (object_at m k)) keys ≡ requests_of m c
-requests_by_keys m c keys are = picked_by_keys (owned_in c) m keys are.ordered (λ k is. are.exact k ∙ owned_named c (object_at m k) is)
+requests_by_keys m c keys are = picked_by_keys (owned_in c) m keys are.ordered (λ k is. are.all k (owned_named c (object_at m k) is))

@@ -34,7 +34,7 @@ named_uids : (owners : List OwnerRef) (u : ℕ) → is_uid_among (map (λ owner.
 named_uids [] u = refl
 named_uids (o ∷ os) u = ap (λ b. (o.uid == u) || b) (named_uids os u)
 
-owner_uids : (o : Option Object) (u : ℕ) → is_uid_among (owner_uids_of o) u ≡ is_owned_by u o
+pub owner_uids : (o : Option Object) (u : ℕ) → is_uid_among (owner_uids_of o) u ≡ is_owned_by u o
 owner_uids None u = refl
 owner_uids (Some o) u = named_uids (meta_of o).owners u
 

@@ -11,7 +11,6 @@ use Rattle.cmc_objects.specs.declared.role.Role.{Role}
 use Rattle.cmc_objects.specs.Objects.{meta_of}
 use Rattle.cmc_model.specs.declared.write.Write.{Write}
 use Rattle.cmc_model.specs.Objects.{Objects, object_at}
-use Rattle.cmc_model.specs.Versions.{uid_of, IsVersion}
 use Rattle.cmc_model.specs.Writes.{contents, oldest, of_kind, is_known}
 use Rattle.cmc_objects.specs.Informers.{looks_at_secret, looks_at_next, looks_at_requests}
 use Rattle.cmc_rules.specs.Views.{Caches, certificate_at, target_at, next_of, requests_of, views_in}
@@ -41,10 +40,6 @@ AreLeft kind ws objects = (p : ℕ) × (objects ≡ left_by ws kind p)
 -- each key under which something stands is one of the kind, and one of the writes names it
 abbrev pub ExistUnderNamed : Kind → List Write → Objects → Type 0
 ExistUnderNamed kind ws objects = (key : Key) → is_some (object_at objects key) ≡ true → (key.kind ≡ kind) × (is_known key ws ≡ true)
-
--- no uid was ever given under two keys
-abbrev pub HaveOwnUids : List Write → Type 0
-HaveOwnUids ws = (j k : Key) (o p : Object) → IsVersion j o ws → IsVersion k p ws → uid_of o ≡ uid_of p → j ≡ k
 
 -- no uid stands under two keys
 abbrev pub IsEachUidOfOneKey : Objects → Type 0

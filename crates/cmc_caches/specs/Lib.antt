@@ -1,2 +1,6 @@
 pub mod Told
 pub mod Affected
+pub mod Lines
+pub mod Left
+pub mod Board
+pub mod Posted

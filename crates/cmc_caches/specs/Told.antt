@@ -1,21 +1,12 @@
 -- What contracts see of what the roles were told of.
-use Rattle.std.specs.Prelude.{List, slice_index_or}
+use Rattle.std.specs.Prelude.{List}
 use Rattle.cmc_meta.specs.declared.key.Kind.{Kind}
 use Rattle.cmc_meta.specs.declared.key.Kind.TheVariants.{Certificate, CertificateRequest, Secret}
-use Rattle.cmc_objects.specs.declared.role.Role.{Role}
 use Rattle.cmc_objects.specs.declared.entry.Positions.{Positions}
-use Rattle.cmc_objects.specs.Roles.{role_rank}
 use Rattle.cmc_model.specs.declared.write.Write.{Write}
-use Rattle.cmc_model.specs.Objects.{Objects, no_objects}
+use Rattle.cmc_model.specs.Objects.{Objects}
 use Rattle.cmc_model.specs.Writes.{contents, oldest, of_kind}
 use Rattle.cmc_rules.specs.Views.{Caches}
-
-abbrev pub empty_caches : Caches
-empty_caches = record { certificates = no_objects; requests = no_objects; secrets = no_objects }
-
--- the rows are in the order of roles
-unfoldable pub caches_of : List Caches → Role → Caches
-caches_of rows role = slice_index_or rows (role_rank role) empty_caches
 
 -- the objects of the kind
 abbrev pub cache_of : Kind → Caches → Objects

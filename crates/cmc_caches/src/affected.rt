@@ -4,11 +4,12 @@ ghost use Rattle.cmc_meta.specs.declared.key.Kind.TheVariants as kinds;
 ghost use Rattle.cmc_model.specs.Objects.{Objects};
 ghost use Rattle.cmc_objects.specs.Informers.{kind_of_work};
 ghost use Rattle.cmc_caches.specs.Told.{cache_of, with_cached};
-ghost use Rattle.cmc_caches.specs.Affected.{AreNamed, IsEachUidOfOneKey, KeepsKeys, SeesSame, SeesSameNext, SeesSameRequests, SeesSameTarget, ExistUnderNamed, left_by};
+ghost use Rattle.cmc_caches.specs.Affected.{AreNamed, KeepsKeys, SeesSame, SeesSameNext, SeesSameRequests, SeesSameTarget, ExistUnderNamed, left_by};
+ghost use Rattle.cmc_caches.specs.Board.{AreBornWhereNumbered, shown_by};
 
 use crate::listed::{add_naming_all, add_with_uids};
+use crate::shown::Shown;
 use crate::touched::{touched_owners, written_keys};
-use cmc_informer::Cache;
 use cmc_meta::{Key, Kind};
 use cmc_model::Write;
 use cmc_objects::{Role, looks_at_next, looks_at_requests, looks_at_secret, works_on_requests};
@@ -38,19 +39,19 @@ fn by_certificates(
 fn by_owned_requests(
     alloc: Global,
     role: Role,
-    certificates: &Cache,
-    requests: &Cache,
+    certificates: &Shown<'_>,
+    requests: &Shown<'_>,
     writes: &[Write],
     from: u64,
     to: u64,
 ) -> Result<Vec<Key>, AllocError>
     requires above { from ≤ to }
     requires within { to ≤ length writes.now }
-    requires holds { requests.now ≡ left_by writes.now kinds.CertificateRequest from }
-    requires named { ExistUnderNamed kinds.Certificate (reverse writes.now) certificates.now }
-    requires uids { IsEachUidOfOneKey certificates.now }
+    requires holds { (shown_by requests.now) ≡ left_by writes.now kinds.CertificateRequest from }
+    requires named { ExistUnderNamed kinds.Certificate (reverse writes.now) (shown_by certificates.now) }
+    requires born { AreBornWhereNumbered certificates.now.writes }
     ensures work { IfOk result (λ keys. AreNamed (kind_of_work role) (reverse writes.now) keys.items) }
-    ensures sees { IfOk result (λ keys. SeesSameRequests role certificates.now keys.items (left_by writes.now kinds.CertificateRequest from) (left_by writes.now kinds.CertificateRequest to)) }
+    ensures sees { IfOk result (λ keys. SeesSameRequests role (shown_by certificates.now) keys.items (left_by writes.now kinds.CertificateRequest from) (left_by writes.now kinds.CertificateRequest to)) }
 {
     let mut keys = Vec::new(alloc);
     if !looks_at_requests(role) {
@@ -65,19 +66,19 @@ fn by_owned_requests(
 fn by_requests(
     alloc: Global,
     role: Role,
-    certificates: &Cache,
-    requests: &Cache,
+    certificates: &Shown<'_>,
+    requests: &Shown<'_>,
     writes: &[Write],
     from: u64,
     to: u64,
 ) -> Result<Vec<Key>, AllocError>
     requires above { from ≤ to }
     requires within { to ≤ length writes.now }
-    requires holds { requests.now ≡ left_by writes.now kinds.CertificateRequest from }
-    requires named { ExistUnderNamed kinds.Certificate (reverse writes.now) certificates.now }
-    requires uids { IsEachUidOfOneKey certificates.now }
+    requires holds { (shown_by requests.now) ≡ left_by writes.now kinds.CertificateRequest from }
+    requires named { ExistUnderNamed kinds.Certificate (reverse writes.now) (shown_by certificates.now) }
+    requires born { AreBornWhereNumbered certificates.now.writes }
     ensures work { IfOk result (λ keys. AreNamed (kind_of_work role) (reverse writes.now) keys.items) }
-    ensures sees { IfOk result (λ keys. (secrets : Objects) → SeesSame role keys.items (record { certificates = certificates.now; requests = left_by writes.now kinds.CertificateRequest from; secrets = secrets }) (record { certificates = certificates.now; requests = left_by writes.now kinds.CertificateRequest to; secrets = secrets })) }
+    ensures sees { IfOk result (λ keys. (secrets : Objects) → SeesSame role keys.items (record { certificates = (shown_by certificates.now); requests = left_by writes.now kinds.CertificateRequest from; secrets = secrets }) (record { certificates = (shown_by certificates.now); requests = left_by writes.now kinds.CertificateRequest to; secrets = secrets })) }
 {
     if works_on_requests(role) {
         return written_keys(alloc, writes, Kind::CertificateRequest, from, to);
@@ -90,19 +91,19 @@ fn by_requests(
 fn by_next_keys(
     alloc: Global,
     role: Role,
-    certificates: &Cache,
-    secrets: &Cache,
+    certificates: &Shown<'_>,
+    secrets: &Shown<'_>,
     writes: &[Write],
     from: u64,
     to: u64,
 ) -> Result<Vec<Key>, AllocError>
     requires above { from ≤ to }
     requires within { to ≤ length writes.now }
-    requires holds { secrets.now ≡ left_by writes.now kinds.Secret from }
-    requires named { ExistUnderNamed kinds.Certificate (reverse writes.now) certificates.now }
-    requires uids { IsEachUidOfOneKey certificates.now }
+    requires holds { (shown_by secrets.now) ≡ left_by writes.now kinds.Secret from }
+    requires named { ExistUnderNamed kinds.Certificate (reverse writes.now) (shown_by certificates.now) }
+    requires born { AreBornWhereNumbered certificates.now.writes }
     ensures work { IfOk result (λ keys. AreNamed (kind_of_work role) (reverse writes.now) keys.items) }
-    ensures sees { IfOk result (λ keys. SeesSameNext role certificates.now keys.items (left_by writes.now kinds.Secret from) (left_by writes.now kinds.Secret to)) }
+    ensures sees { IfOk result (λ keys. SeesSameNext role (shown_by certificates.now) keys.items (left_by writes.now kinds.Secret from) (left_by writes.now kinds.Secret to)) }
 {
     let mut keys = Vec::new(alloc);
     if !looks_at_next(role) {
@@ -118,7 +119,7 @@ fn by_next_keys(
 fn add_by_targets(
     alloc: Global,
     role: Role,
-    certificates: &Cache,
+    certificates: &Shown<'_>,
     keys: &mut Vec<Key>,
     writes: &[Write],
     from: u64,
@@ -126,9 +127,9 @@ fn add_by_targets(
 ) -> Result<(), AllocError>
     requires above { from ≤ to }
     requires within { to ≤ length writes.now }
-    requires named { ExistUnderNamed kinds.Certificate (reverse writes.now) certificates.now }
+    requires named { ExistUnderNamed kinds.Certificate (reverse writes.now) (shown_by certificates.now) }
     ensures work { OnOk result (AreNamed (kind_of_work role) (reverse writes.now) keys.old.items → AreNamed (kind_of_work role) (reverse writes.now) keys.new.items) }
-    ensures sees { OnOk result (SeesSameTarget role certificates.now keys.new.items (left_by writes.now kinds.Secret from) (left_by writes.now kinds.Secret to)) }
+    ensures sees { OnOk result (SeesSameTarget role (shown_by certificates.now) keys.new.items (left_by writes.now kinds.Secret from) (left_by writes.now kinds.Secret to)) }
     ensures keeps { OnOk result (KeepsKeys keys.old.items keys.new.items) }
 {
     if !looks_at_secret(role) {
@@ -142,19 +143,19 @@ fn add_by_targets(
 fn by_secrets(
     alloc: Global,
     role: Role,
-    certificates: &Cache,
-    secrets: &Cache,
+    certificates: &Shown<'_>,
+    secrets: &Shown<'_>,
     writes: &[Write],
     from: u64,
     to: u64,
 ) -> Result<Vec<Key>, AllocError>
     requires above { from ≤ to }
     requires within { to ≤ length writes.now }
-    requires holds { secrets.now ≡ left_by writes.now kinds.Secret from }
-    requires named { ExistUnderNamed kinds.Certificate (reverse writes.now) certificates.now }
-    requires uids { IsEachUidOfOneKey certificates.now }
+    requires holds { (shown_by secrets.now) ≡ left_by writes.now kinds.Secret from }
+    requires named { ExistUnderNamed kinds.Certificate (reverse writes.now) (shown_by certificates.now) }
+    requires born { AreBornWhereNumbered certificates.now.writes }
     ensures work { IfOk result (λ keys. AreNamed (kind_of_work role) (reverse writes.now) keys.items) }
-    ensures sees { IfOk result (λ keys. (requests : Objects) → SeesSame role keys.items (record { certificates = certificates.now; requests = requests; secrets = left_by writes.now kinds.Secret from }) (record { certificates = certificates.now; requests = requests; secrets = left_by writes.now kinds.Secret to })) }
+    ensures sees { IfOk result (λ keys. (requests : Objects) → SeesSame role keys.items (record { certificates = (shown_by certificates.now); requests = requests; secrets = left_by writes.now kinds.Secret from }) (record { certificates = (shown_by certificates.now); requests = requests; secrets = left_by writes.now kinds.Secret to })) }
 {
     let mut keys = by_next_keys(alloc, role, certificates, secrets, writes, from, to)?;
     add_by_targets(alloc, role, certificates, &mut keys, writes, from, to)?;
@@ -166,9 +167,9 @@ fn by_secrets(
 pub(crate) fn affected_on(
     alloc: Global,
     role: Role,
-    certificates: &Cache,
-    requests: &Cache,
-    secrets: &Cache,
+    certificates: &Shown<'_>,
+    requests: &Shown<'_>,
+    secrets: &Shown<'_>,
     writes: &[Write],
     kind: Kind,
     from: u64,
@@ -176,11 +177,11 @@ pub(crate) fn affected_on(
 ) -> Result<Vec<Key>, AllocError>
     requires above { from ≤ to }
     requires within { to ≤ length writes.now }
-    requires holds { cache_of kind (record { certificates = certificates.now; requests = requests.now; secrets = secrets.now }) ≡ left_by writes.now kind from }
-    requires named { ExistUnderNamed kinds.Certificate (reverse writes.now) certificates.now }
-    requires uids { IsEachUidOfOneKey certificates.now }
+    requires holds { cache_of kind (record { certificates = (shown_by certificates.now); requests = (shown_by requests.now); secrets = (shown_by secrets.now) }) ≡ left_by writes.now kind from }
+    requires named { ExistUnderNamed kinds.Certificate (reverse writes.now) (shown_by certificates.now) }
+    requires born { AreBornWhereNumbered certificates.now.writes }
     ensures work { IfOk result (λ keys. AreNamed (kind_of_work role) (reverse writes.now) keys.items) }
-    ensures sees { IfOk result (λ keys. SeesSame role keys.items (record { certificates = certificates.now; requests = requests.now; secrets = secrets.now }) (with_cached kind (left_by writes.now kind to) (record { certificates = certificates.now; requests = requests.now; secrets = secrets.now }))) }
+    ensures sees { IfOk result (λ keys. SeesSame role keys.items (record { certificates = (shown_by certificates.now); requests = (shown_by requests.now); secrets = (shown_by secrets.now) }) (with_cached kind (left_by writes.now kind to) (record { certificates = (shown_by certificates.now); requests = (shown_by requests.now); secrets = (shown_by secrets.now) }))) }
 {
     match kind {
         Kind::Certificate => by_certificates(alloc, role, writes, from, to),

@@ -1,19 +1,22 @@
 //! The Certificates that something belongs to, by the cache of Certificates.
-ghost use Rattle.std.specs.Prelude.{◌≡◌, ◌++◌, OnOk, true};
+ghost use Rattle.std.specs.Option.{option_copied};
+ghost use Rattle.std.specs.Prelude.{◌≡◌, OnOk, true};
 ghost use Rattle.cmc_meta.specs.declared.key.Key.{Key as KeyValue};
 ghost use Rattle.cmc_model.specs.Objects.{object_at};
 ghost use Rattle.cmc_informer.specs.Caches.{has_uid, is_targeting};
-ghost use Rattle.cmc_caches.specs.Affected.{AddsExisting, AreListedBySecret, AreListedByUid, IsEachUidOfOneKey, KeepsKeys, is_among};
+ghost use Rattle.cmc_caches.specs.Affected.{AddsExisting, AreListedBySecret, AreListedByUid, KeepsKeys, is_among};
+ghost use Rattle.cmc_caches.specs.Board.{AreBornWhereNumbered, shown_by};
 
-use cmc_informer::Cache;
+use crate::shown::Shown;
 use cmc_meta::Key;
+use cmc_objects::Object;
 use std::alloc::{AllocError, Global};
 
-fn add_with_uid(certificates: &Cache, keys: &mut Vec<Key>, uid: u64) -> Result<(), AllocError>
-    requires { IsEachUidOfOneKey certificates.now }
-    ensures listed { OnOk result ((k : KeyValue) → has_uid uid (object_at certificates.now k) ≡ true → is_among keys.new.items k ≡ true) }
+fn add_with_uid(certificates: &Shown<'_>, keys: &mut Vec<Key>, uid: u64) -> Result<(), AllocError>
+    requires { AreBornWhereNumbered certificates.now.writes }
+    ensures listed { OnOk result ((k : KeyValue) → has_uid uid (object_at (shown_by certificates.now) k) ≡ true → is_among keys.new.items k ≡ true) }
     ensures keeps { OnOk result (KeepsKeys keys.old.items keys.new.items) }
-    ensures adds { OnOk result (AddsExisting certificates.now keys.old.items keys.new.items) }
+    ensures adds { OnOk result (AddsExisting (shown_by certificates.now) keys.old.items keys.new.items) }
 {
     if let Some(key) = certificates.by_uid(uid) {
         keys.push(key.copy()?)?;
@@ -23,14 +26,14 @@ fn add_with_uid(certificates: &Cache, keys: &mut Vec<Key>, uid: u64) -> Result<(
 
 /// Adds the keys of the Certificates that have one of the uids. An error is one of memory.
 pub(crate) fn add_with_uids(
-    certificates: &Cache,
+    certificates: &Shown<'_>,
     keys: &mut Vec<Key>,
     uids: &[u64],
 ) -> Result<(), AllocError>
-    requires { IsEachUidOfOneKey certificates.now }
-    ensures listed { OnOk result (AreListedByUid certificates.now uids.now keys.new.items) }
+    requires { AreBornWhereNumbered certificates.now.writes }
+    ensures listed { OnOk result (AreListedByUid (shown_by certificates.now) uids.now keys.new.items) }
     ensures keeps { OnOk result (KeepsKeys keys.old.items keys.new.items) }
-    ensures adds { OnOk result (AddsExisting certificates.now keys.old.items keys.new.items) }
+    ensures adds { OnOk result (AddsExisting (shown_by certificates.now) keys.old.items keys.new.items) }
 {
     for uid in uids {
         add_with_uid(certificates, keys, *uid)?;
@@ -38,27 +41,63 @@ pub(crate) fn add_with_uids(
     Ok(())
 }
 
-fn add_all(keys: &mut Vec<Key>, more: &[Key]) -> Result<(), AllocError>
-    ensures { OnOk result (keys.new.items ≡ keys.old.items ++ more.now) }
+fn targets(object: Option<&Object>, secret: &Key) -> bool
+    ensures { result ≡ is_targeting secret.now.namespace secret.now.name (option_copied object.entry) }
+{
+    match object {
+        Some(Object::Cert(c)) => {
+            c.meta.namespace == secret.namespace && c.spec.secret_name == secret.name
+        }
+        _ => false,
+    }
+}
+
+/// Adds the key, where it is that of a Certificate that names the Secret.
+fn add_targeting(
+    certificates: &Shown<'_>,
+    keys: &mut Vec<Key>,
+    key: &Key,
+    secret: &Key,
+) -> Result<(), AllocError>
+    ensures listed { OnOk result (is_targeting secret.now.namespace secret.now.name (object_at (shown_by certificates.now) key.now) ≡ true → is_among keys.new.items key.now ≡ true) }
+    ensures keeps { OnOk result (KeepsKeys keys.old.items keys.new.items) }
+    ensures adds { OnOk result (AddsExisting (shown_by certificates.now) keys.old.items keys.new.items) }
+{
+    if targets(certificates.get(key), secret) {
+        keys.push(key.copy()?)?;
+    }
+    Ok(())
+}
+
+/// Adds those of the keys that are of Certificates that name the Secret.
+fn add_targeting_all(
+    certificates: &Shown<'_>,
+    keys: &mut Vec<Key>,
+    more: &[Key],
+    secret: &Key,
+) -> Result<(), AllocError>
+    ensures listed { OnOk result ((k : KeyValue) → is_among more.now k ≡ true → is_targeting secret.now.namespace secret.now.name (object_at (shown_by certificates.now) k) ≡ true → is_among keys.new.items k ≡ true) }
+    ensures keeps { OnOk result (KeepsKeys keys.old.items keys.new.items) }
+    ensures adds { OnOk result (AddsExisting (shown_by certificates.now) keys.old.items keys.new.items) }
 {
     for key in more {
-        keys.push(key.copy()?)?;
+        add_targeting(certificates, keys, key, secret)?;
     }
     Ok(())
 }
 
 fn add_naming(
     alloc: Global,
-    certificates: &Cache,
+    certificates: &Shown<'_>,
     keys: &mut Vec<Key>,
     secret: &Key,
 ) -> Result<(), AllocError>
-    ensures listed { OnOk result ((k : KeyValue) → is_targeting secret.now.namespace secret.now.name (object_at certificates.now k) ≡ true → is_among keys.new.items k ≡ true) }
+    ensures listed { OnOk result ((k : KeyValue) → is_targeting secret.now.namespace secret.now.name (object_at (shown_by certificates.now) k) ≡ true → is_among keys.new.items k ≡ true) }
     ensures keeps { OnOk result (KeepsKeys keys.old.items keys.new.items) }
-    ensures adds { OnOk result (AddsExisting certificates.now keys.old.items keys.new.items) }
+    ensures adds { OnOk result (AddsExisting (shown_by certificates.now) keys.old.items keys.new.items) }
 {
     let more = certificates.by_secret(alloc, &secret.namespace, &secret.name)?;
-    add_all(keys, more.as_slice())?;
+    add_targeting_all(certificates, keys, more.as_slice(), secret)?;
     Ok(())
 }
 
@@ -66,13 +105,13 @@ fn add_naming(
 /// is one of memory.
 pub(crate) fn add_naming_all(
     alloc: Global,
-    certificates: &Cache,
+    certificates: &Shown<'_>,
     keys: &mut Vec<Key>,
     secrets: &[Key],
 ) -> Result<(), AllocError>
-    ensures listed { OnOk result (AreListedBySecret certificates.now secrets.now keys.new.items) }
+    ensures listed { OnOk result (AreListedBySecret (shown_by certificates.now) secrets.now keys.new.items) }
     ensures keeps { OnOk result (KeepsKeys keys.old.items keys.new.items) }
-    ensures adds { OnOk result (AddsExisting certificates.now keys.old.items keys.new.items) }
+    ensures adds { OnOk result (AddsExisting (shown_by certificates.now) keys.old.items keys.new.items) }
 {
     for secret in secrets {
         add_naming(alloc, certificates, keys, secret)?;

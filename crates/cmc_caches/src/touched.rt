@@ -4,8 +4,9 @@ ghost use Rattle.std.specs.Prelude.{◌≡◌, ◌≤◌, ◌++◌, ◌∷◌, [
 ghost use Rattle.cmc_model.specs.Objects.{object_at};
 ghost use Rattle.cmc_model.specs.Writes as spec;
 ghost use Rattle.cmc_caches.specs.Affected.{AddsOwners, AreNamed, AreSameBut, AreSameButOf, left_by, owner_uids_of};
+ghost use Rattle.cmc_caches.specs.Board.{shown_by};
 
-use cmc_informer::Cache;
+use crate::shown::Shown;
 use cmc_meta::{Key, Kind, Numbers, OwnerRef};
 use cmc_model::Write;
 use cmc_objects::Object;
@@ -60,7 +61,7 @@ fn add_owners(uids: &mut Numbers, object: Option<&Object>) -> Result<(), AllocEr
 }
 
 /// Whether both stand and have the same owners.
-fn have_same_owners(before: Option<&Object>, after: Option<&Object>) -> bool
+pub(crate) fn have_same_owners(before: Option<&Object>, after: Option<&Object>) -> bool
     ensures { result ≡ true → owner_uids_of (option_copied before.entry) ≡ owner_uids_of (option_copied after.entry) }
 {
     match (before, after) {
@@ -87,12 +88,12 @@ fn add_both(
 /// Adds the owners of what stood under the key of the write, and of what is there then, where the key is one of the
 /// kind.
 fn add_owners_of_kind(
-    objects: &Cache,
+    objects: &Shown<'_>,
     uids: &mut Numbers,
     write: &Write,
     kind: Kind,
 ) -> Result<(), AllocError>
-    ensures hit { OnOk result (spec.kind_eq write.now.key.kind kind ≡ true → AddsOwners (object_at objects.now write.now.key) write.now.object uids.old uids.new) }
+    ensures hit { OnOk result (spec.kind_eq write.now.key.kind kind ≡ true → AddsOwners (object_at (shown_by objects.now) write.now.key) write.now.object uids.old uids.new) }
     ensures miss { OnOk result (spec.kind_eq write.now.key.kind kind ≡ false → uids.new ≡ uids.old) }
 {
     if write.key.kind == kind {
@@ -106,7 +107,7 @@ fn add_owners_of_kind(
 /// they were before all of them are all that it looks at. An error is one of memory.
 pub(crate) fn touched_owners(
     alloc: Global,
-    objects: &Cache,
+    objects: &Shown<'_>,
     writes: &[Write],
     kind: Kind,
     from: u64,
@@ -114,7 +115,7 @@ pub(crate) fn touched_owners(
 ) -> Result<Numbers, AllocError>
     requires above { from ≤ to }
     requires within { to ≤ length writes.now }
-    requires holds { objects.now ≡ left_by writes.now kind from }
+    requires holds { (shown_by objects.now) ≡ left_by writes.now kind from }
     ensures { IfOk result (λ uids. AreSameButOf uids (left_by writes.now kind from) (left_by writes.now kind to)) }
 {
     let mut uids = Numbers::new(alloc);

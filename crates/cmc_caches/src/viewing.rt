@@ -4,8 +4,9 @@ ghost use Rattle.std.specs.Prelude.{◌≡◌, ◌==◌, ◌&&◌, ◌++◌, Som
 ghost use Rattle.cmc_model.specs.Objects.{Objects, object_at};
 ghost use Rattle.cmc_objects.specs.Informers as tables;
 ghost use Rattle.cmc_rules.specs.Views as seen;
+ghost use Rattle.cmc_caches.specs.Board.{shown_by};
 
-use cmc_informer::Cache;
+use crate::shown::Shown;
 use cmc_meta::{Key, Kind, ObjectMeta, OwnerRef, Text};
 use cmc_objects::{
     Certificate, CertificateRequest, Object, Role, Secret, Shared, looks_at_next,
@@ -44,8 +45,8 @@ fn secret_in(object: &Object) -> Result<Option<Shared<Secret>>, AllocError>
     }
 }
 
-fn certificate_at(objects: &Cache, key: &Key) -> Result<Option<Shared<Certificate>>, AllocError>
-    ensures { IfOk result (λ c. c ≡ seen.certificate_at objects.now key.now) }
+fn certificate_at(objects: &Shown<'_>, key: &Key) -> Result<Option<Shared<Certificate>>, AllocError>
+    ensures { IfOk result (λ c. c ≡ seen.certificate_at (shown_by objects.now) key.now) }
 {
     match objects.get(key) {
         Some(object) => certificate_in(object),
@@ -53,8 +54,11 @@ fn certificate_at(objects: &Cache, key: &Key) -> Result<Option<Shared<Certificat
     }
 }
 
-fn request_at(objects: &Cache, key: &Key) -> Result<Option<Shared<CertificateRequest>>, AllocError>
-    ensures { IfOk result (λ r. r ≡ seen.request_at objects.now key.now) }
+fn request_at(
+    objects: &Shown<'_>,
+    key: &Key,
+) -> Result<Option<Shared<CertificateRequest>>, AllocError>
+    ensures { IfOk result (λ r. r ≡ seen.request_at (shown_by objects.now) key.now) }
 {
     match objects.get(key) {
         Some(object) => request_in(object),
@@ -62,7 +66,8 @@ fn request_at(objects: &Cache, key: &Key) -> Result<Option<Shared<CertificateReq
     }
 }
 
-fn target_key(certificate: &Certificate) -> Result<Key, AllocError>
+/// The key of the Secret that the Certificate names.
+pub(crate) fn target_key(certificate: &Certificate) -> Result<Key, AllocError>
     ensures { IfOk result (λ k. k ≡ record { kind = Kind.Secret; namespace = certificate.now.meta.namespace; name = certificate.now.spec.secret_name }) }
 {
     Ok(Key {
@@ -73,10 +78,10 @@ fn target_key(certificate: &Certificate) -> Result<Key, AllocError>
 }
 
 fn target_at(
-    objects: &Cache,
+    objects: &Shown<'_>,
     certificate: &Certificate,
 ) -> Result<Option<Shared<Secret>>, AllocError>
-    ensures { IfOk result (λ s. s ≡ seen.target_at objects.now certificate.now) }
+    ensures { IfOk result (λ s. s ≡ seen.target_at (shown_by objects.now) certificate.now) }
 {
     let key = target_key(certificate)?;
     match objects.get(&key) {
@@ -189,11 +194,11 @@ fn push_request(
 fn next_at(
     label: &Text,
     certificate: &Certificate,
-    objects: &Cache,
+    objects: &Shown<'_>,
     key: &Key,
 ) -> Result<Option<Shared<Secret>>, AllocError>
     requires { label.now ≡ codes "cert-manager.io/next-private-key" }
-    ensures { IfOk result (λ s. s ≡ option_and_then (seen.next_in certificate.now) (object_at objects.now key.now)) }
+    ensures { IfOk result (λ s. s ≡ option_and_then (seen.next_in certificate.now) (object_at (shown_by objects.now) key.now)) }
 {
     match objects.get(key) {
         Some(object) => next_in(label, certificate, object),
@@ -204,10 +209,10 @@ fn next_at(
 /// The CertificateRequest under the key, where the Certificate owns it.
 fn owned_at(
     certificate: &Certificate,
-    objects: &Cache,
+    objects: &Shown<'_>,
     key: &Key,
 ) -> Result<Option<Shared<CertificateRequest>>, AllocError>
-    ensures { IfOk result (λ r. r ≡ option_and_then (seen.owned_in certificate.now) (object_at objects.now key.now)) }
+    ensures { IfOk result (λ r. r ≡ option_and_then (seen.owned_in certificate.now) (object_at (shown_by objects.now) key.now)) }
 {
     match objects.get(key) {
         Some(object) => owned_in(certificate, object),
@@ -219,11 +224,11 @@ fn next_under(
     alloc: Global,
     label: &Text,
     certificate: &Certificate,
-    objects: &Cache,
+    objects: &Shown<'_>,
     keys: &[Key],
 ) -> Result<Secrets, AllocError>
     requires { label.now ≡ codes "cert-manager.io/next-private-key" }
-    ensures { IfOk result (λ s. s ≡ filter_map (λ k. option_and_then (seen.next_in certificate.now) (object_at objects.now k)) keys.now) }
+    ensures { IfOk result (λ s. s ≡ filter_map (λ k. option_and_then (seen.next_in certificate.now) (object_at (shown_by objects.now) k)) keys.now) }
 {
     let mut next = Secrets::new(alloc);
     for key in keys {
@@ -235,10 +240,10 @@ fn next_under(
 fn owned_under(
     alloc: Global,
     certificate: &Certificate,
-    objects: &Cache,
+    objects: &Shown<'_>,
     keys: &[Key],
 ) -> Result<Requests, AllocError>
-    ensures { IfOk result (λ r. r ≡ filter_map (λ k. option_and_then (seen.owned_in certificate.now) (object_at objects.now k)) keys.now) }
+    ensures { IfOk result (λ r. r ≡ filter_map (λ k. option_and_then (seen.owned_in certificate.now) (object_at (shown_by objects.now) k)) keys.now) }
 {
     let mut owned = Requests::new(alloc);
     for key in keys {
@@ -248,8 +253,12 @@ fn owned_under(
 }
 
 /// The Secrets with a next private key of the Certificate: of what names its uid as an owner, those.
-fn next_of(alloc: Global, objects: &Cache, certificate: &Certificate) -> Result<Secrets, AllocError>
-    ensures { IfOk result (λ s. s ≡ seen.next_of objects.now certificate.now) }
+fn next_of(
+    alloc: Global,
+    objects: &Shown<'_>,
+    certificate: &Certificate,
+) -> Result<Secrets, AllocError>
+    ensures { IfOk result (λ s. s ≡ seen.next_of (shown_by objects.now) certificate.now) }
 {
     let label = Text::from_str(alloc, "cert-manager.io/next-private-key")?;
     let keys = objects.owned_by(alloc, certificate.meta.uid)?;
@@ -259,10 +268,10 @@ fn next_of(alloc: Global, objects: &Cache, certificate: &Certificate) -> Result<
 /// The CertificateRequests that the Certificate owns: of what names its uid as an owner, those.
 fn requests_of(
     alloc: Global,
-    objects: &Cache,
+    objects: &Shown<'_>,
     certificate: &Certificate,
 ) -> Result<Requests, AllocError>
-    ensures { IfOk result (λ r. r ≡ seen.requests_of objects.now certificate.now) }
+    ensures { IfOk result (λ r. r ≡ seen.requests_of (shown_by objects.now) certificate.now) }
 {
     let keys = objects.owned_by(alloc, certificate.meta.uid)?;
     owned_under(alloc, certificate, objects, keys.as_slice())
@@ -270,10 +279,10 @@ fn requests_of(
 
 fn secret_seen(
     role: Role,
-    secrets: &Cache,
+    secrets: &Shown<'_>,
     certificate: &Option<Shared<Certificate>>,
 ) -> Result<Option<Shared<Secret>>, AllocError>
-    ensures { IfOk result (λ s. s ≡ (if tables.looks_at_secret role then option_and_then (seen.target_at secrets.now) certificate.now else None)) }
+    ensures { IfOk result (λ s. s ≡ (if tables.looks_at_secret role then option_and_then (seen.target_at (shown_by secrets.now)) certificate.now else None)) }
 {
     if !looks_at_secret(role) {
         return Ok(None);
@@ -287,10 +296,10 @@ fn secret_seen(
 fn next_seen(
     alloc: Global,
     role: Role,
-    secrets: &Cache,
+    secrets: &Shown<'_>,
     certificate: &Option<Shared<Certificate>>,
 ) -> Result<Secrets, AllocError>
-    ensures { IfOk result (λ s. s ≡ (if tables.looks_at_next role then seen.of_certificate (seen.next_of secrets.now) certificate.now else [])) }
+    ensures { IfOk result (λ s. s ≡ (if tables.looks_at_next role then seen.of_certificate (seen.next_of (shown_by secrets.now)) certificate.now else [])) }
 {
     if !looks_at_next(role) {
         return Ok(Secrets::new(alloc));
@@ -304,10 +313,10 @@ fn next_seen(
 fn requests_seen(
     alloc: Global,
     role: Role,
-    requests: &Cache,
+    requests: &Shown<'_>,
     certificate: &Option<Shared<Certificate>>,
 ) -> Result<Requests, AllocError>
-    ensures { IfOk result (λ r. r ≡ (if tables.looks_at_requests role then seen.of_certificate (seen.requests_of requests.now) certificate.now else [])) }
+    ensures { IfOk result (λ r. r ≡ (if tables.looks_at_requests role then seen.of_certificate (seen.requests_of (shown_by requests.now)) certificate.now else [])) }
 {
     if !looks_at_requests(role) {
         return Ok(Requests::new(alloc));
@@ -320,10 +329,10 @@ fn requests_seen(
 
 fn certificate_seen(
     role: Role,
-    certificates: &Cache,
+    certificates: &Shown<'_>,
     key: &Key,
 ) -> Result<Option<Shared<Certificate>>, AllocError>
-    ensures { IfOk result (λ c. c ≡ (if tables.works_on_requests role then None else seen.certificate_at certificates.now key.now)) }
+    ensures { IfOk result (λ c. c ≡ (if tables.works_on_requests role then None else seen.certificate_at (shown_by certificates.now) key.now)) }
 {
     if works_on_requests(role) {
         return Ok(None);
@@ -333,10 +342,10 @@ fn certificate_seen(
 
 fn request_seen(
     role: Role,
-    requests: &Cache,
+    requests: &Shown<'_>,
     key: &Key,
 ) -> Result<Option<Shared<CertificateRequest>>, AllocError>
-    ensures { IfOk result (λ r. r ≡ (if tables.works_on_requests role then seen.request_at requests.now key.now else None)) }
+    ensures { IfOk result (λ r. r ≡ (if tables.works_on_requests role then seen.request_at (shown_by requests.now) key.now else None)) }
 {
     if works_on_requests(role) {
         return request_at(requests, key);
@@ -348,12 +357,12 @@ fn request_seen(
 fn views_of(
     alloc: Global,
     role: Role,
-    requests: &Cache,
-    secrets: &Cache,
+    requests: &Shown<'_>,
+    secrets: &Shown<'_>,
     certificate: Option<Shared<Certificate>>,
     request: Option<Shared<CertificateRequest>>,
 ) -> Result<Views, AllocError>
-    ensures { IfOk result (λ v. (any : Objects) → v ≡ seen.views_of role (record { certificates = any; requests = requests.now; secrets = secrets.now }) certificate request) }
+    ensures { IfOk result (λ v. (any : Objects) → v ≡ seen.views_of role (record { certificates = any; requests = (shown_by requests.now); secrets = (shown_by secrets.now) }) certificate request) }
 {
     let secret = secret_seen(role, secrets, &certificate)?;
     let next = next_seen(alloc, role, secrets, &certificate)?;
@@ -372,12 +381,12 @@ fn views_of(
 pub(crate) fn views_on(
     alloc: Global,
     role: Role,
-    certificates: &Cache,
-    requests: &Cache,
-    secrets: &Cache,
+    certificates: &Shown<'_>,
+    requests: &Shown<'_>,
+    secrets: &Shown<'_>,
     key: &Key,
 ) -> Result<Views, AllocError>
-    ensures { IfOk result (λ v. v ≡ seen.views_in role (record { certificates = certificates.now; requests = requests.now; secrets = secrets.now }) key.now) }
+    ensures { IfOk result (λ v. v ≡ seen.views_in role (record { certificates = (shown_by certificates.now); requests = (shown_by requests.now); secrets = (shown_by secrets.now) }) key.now) }
 {
     let certificate = certificate_seen(role, certificates, key)?;
     let request = request_seen(role, requests, key)?;

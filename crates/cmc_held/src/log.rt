@@ -60,6 +60,16 @@ impl Log {
         }
     }
 
+    /// A copy of it. An `Err` says that memory ran out.
+    pub fn copy(&self, alloc: Global) -> Result<Log, AllocError>
+        ensures { IfOk result (λ l. l.writes ≡ self.now.writes) }
+    {
+        Ok(Log {
+            items: copies_of(alloc, self.as_slice())?,
+            last: self.last,
+        })
+    }
+
     /// Makes room for so many more writes, and changes nothing else; room that exists is kept.
     pub fn reserve(&mut self, more: u64) -> Result<(), AllocError>
         ensures room { OnOk result (more ≤ self.new.spare) }
@@ -94,6 +104,13 @@ impl Log {
         self.items.as_slice()
     }
 
+    /// The write of the version; `None` exactly where none has it.
+    pub fn write(&self, version: u64) -> Option<&Write>
+        ensures { option_copied result ≡ spec.write_at version self.now.writes }
+    {
+        write_of(self.as_slice(), version)
+    }
+
     /// Whether the write of this version is one of the kind; no write has version 0.
     pub fn is_of_kind(&self, version: u64, kind: Kind) -> bool
         ensures { IsTrue result ↔ IsOfKind kind (spec.write_at version self.now.writes) }
@@ -108,19 +125,38 @@ impl Log {
         at_kind(self.last, kind)
     }
 
-    /// The version of the last write under the key, 0 where there is none.
-    pub fn last_under(&self, key: &Key) -> u64
-        ensures { result ≡ spec.last_under key.now self.now.writes }
+    /// The version of the last write under the key, where it is above this one; 0 where none above it is under the key. It
+    /// takes a step for each write above the version.
+    pub fn last_above(&self, after: u64, key: &Key) -> u64
+        ensures last { 0 < result → result ≡ spec.last_under key.now self.now.writes }
+        ensures above { 0 < result → after < result }
+        ensures none { result ≡ 0 → spec.last_under key.now self.now.writes ≤ after }
     {
-        last_under(self.as_slice(), key)
+        last_above(self.as_slice(), after, key)
     }
+}
 
-    /// Whether an accepted write named the key.
-    pub fn knows(&self, key: &Key) -> bool
-        ensures { result ≡ spec.is_known key.now self.now.writes }
-    {
-        is_known(self.as_slice(), key)
+fn copy_of(write: &Write) -> Result<Write, AllocError>
+    ensures { IfOk result (λ w. w ≡ write.now) }
+{
+    let object = match &write.object {
+        Some(object) => Some(object.copy()?),
+        None => None,
+    };
+    Ok(Write {
+        key: write.key.copy()?,
+        object,
+    })
+}
+
+fn copies_of(alloc: Global, writes: &[Write]) -> Result<Vec<Write>, AllocError>
+    ensures { IfOk result (λ copies. copies.items ≡ writes.now) }
+{
+    let mut copies = Vec::new(alloc);
+    for write in writes {
+        copies.push(copy_of(write)?)?;
     }
+    Ok(copies)
 }
 
 fn write_in_place(writes: &[Write], place: u64) -> Option<&Write>
@@ -147,20 +183,19 @@ fn is_of_kind(writes: &[Write], version: u64, kind: Kind) -> bool
     }
 }
 
-fn last_under(writes: &[Write], key: &Key) -> u64
-    ensures { result ≡ spec.last_under key.now (reverse writes.now) }
+fn last_above(writes: &[Write], after: u64, key: &Key) -> u64
+    ensures last { 0 < result → result ≡ spec.last_under key.now (reverse writes.now) }
+    ensures above { 0 < result → after < result }
+    ensures none { result ≡ 0 → spec.last_under key.now (reverse writes.now) ≤ after }
 {
     for newer in 0..writes.len() {
         let version = writes.len() - newer;
+        if version as u64 <= after {
+            return 0;
+        }
         if writes[version - 1].key == *key {
             return version as u64;
         }
     }
     0
-}
-
-fn is_known(writes: &[Write], key: &Key) -> bool
-    ensures { result ≡ spec.is_known key.now writes.now }
-{
-    writes.iter().any(|write| write.key == *key)
 }

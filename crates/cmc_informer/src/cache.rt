@@ -2,12 +2,13 @@
 ghost use Rattle.std.specs.Option.{option_copied};
 ghost use Rattle.std.specs.Prelude.{◌≡◌, ◌≤◌, IfOk, OnOk, OnErr, length, reverse};
 ghost use Rattle.cmc_model.specs.Objects.{no_objects, object_at, with_object};
+ghost use Rattle.cmc_model.specs.Replies.{put_at};
 ghost use Rattle.cmc_model.specs.Writes as spec;
 ghost use Rattle.cmc_informer.specs.Caches.{has_uid, is_owned_by, is_targeting};
 ghost use Rattle.cmc_informer.specs.Indexes.{AreKeys, Finds};
 
 use crate::keys::Keys;
-use crate::rows::{Rows, change, make, make_room, no_rows, prepare};
+use crate::rows::{Rows, change, copy_object, make, make_room, no_rows, prepare};
 use crate::targets::key_of_secret;
 use cmc_meta::{Key, Kind, Name};
 use cmc_model::Write;
@@ -118,6 +119,18 @@ impl Cache {
         let object = Some(object);
         make_room(alloc, &mut self.rows, key, &object)?;
         change(&mut self.rows, key, object);
+        Ok(())
+    }
+
+    /// Applies one write: puts the object that it left under its key, or removes the one that is there. An `Err` says
+    /// that memory ran out, and leaves all as it was.
+    pub fn write(&mut self, alloc: Global, write: &Write) -> Result<(), AllocError>
+        ensures ok { OnOk result (self.new ≡ put_at self.old write.now.key write.now.object) }
+        ensures err { OnErr result (self.new ≡ self.old) }
+    {
+        let object = copy_object(&write.object)?;
+        make_room(alloc, &mut self.rows, &write.key, &object)?;
+        change(&mut self.rows, &write.key, object);
         Ok(())
     }
 

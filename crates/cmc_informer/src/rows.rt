@@ -81,7 +81,7 @@ pub(crate) fn change(rows: &mut Rows, key: &Key, object: Option<Object>)
         .change(&mut rows.owners, &mut rows.uids, key, object);
 }
 
-fn copy_object(object: &Option<Object>) -> Result<Option<Object>, AllocError>
+pub(crate) fn copy_object(object: &Option<Object>) -> Result<Option<Object>, AllocError>
     ensures { IfOk result (λ o. o ≡ object.now) }
 {
     match object {

@@ -27,7 +27,6 @@ use Rattle.cmc_rules.specs.Legality.{IsLegalEntry, IsLegal, IsOpen}
 use Rattle.cmc_rules.specs.Causes.{MayAsk, MayGive, IsCausedEntry, IsCaused}
 use Rattle.cmc_rules.specs.Scripts.{scripted}
 use Rattle.cmc_rules.specs.UserSteps.{owed, FollowsEntry, Follows}
-use Rattle.cmc_caches.specs.Told.{caches_at}
 use Rattle.cmc_safety.proofs.MayAct.{asked_short}
 use Rattle.cmc_moves.specs.Answers.{kept_at, kept_of, value_entry}
 use Rattle.cmc_kernel.specs.Kept.{role_state, Holdings, IsKept}
@@ -51,7 +50,7 @@ kept_asked s h w n order opened keys answers k is may room staged keyed answered
     moment = k.held.moment;
     made = k.held.made;
     role_state = k.held.role_state;
-    caches = k.held.caches;
+    told = k.held.told;
     origins = k.held.origins;
     opened = λ m. staged m ∙ ap (λ (o : Option OpenPass). if m == n then option_map (with_stage (Asked order)) o else o) (k.held.opened m);
     past = k.held.past;
@@ -106,7 +105,7 @@ kept_silent s h w n value e opened k q is may room staged = record {
     moment = k.held.moment ∙ sym q.moment;
     made = k.held.made ∙ sym q.made;
     role_state = λ r. k.held.role_state r ∙ sym (q.role_state r);
-    caches = λ r. k.held.caches r ∙ ap (λ (ws : List Write). caches_at ws (positions h r)) (sym q.log) ∙ ap (λ (at : Positions). caches_at (writes s (e ∷ h)) at) (sym (q.positions r));
+    told = λ r. k.held.told r ∙ sym (q.positions r);
     origins = k.held.origins ∙ sym q.origins;
     opened = λ m. staged m ∙ ap (given m n value) (k.held.opened m) ∙ sym (q.opened m);
     past = λ r key. k.held.past r key ∙ sym (q.past r key);

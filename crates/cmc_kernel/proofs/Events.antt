@@ -11,6 +11,7 @@ use Rattle.cmc_objects.specs.declared.entry.Step.{Step}
 use Rattle.cmc_objects.specs.declared.entry.Cause.{Cause}
 use Rattle.cmc_objects.specs.declared.entry.Who.TheVariants.{User, Pass}
 use Rattle.cmc_objects.specs.declared.entry.Entry.{Entry}
+use Rattle.cmc_objects.specs.declared.entry.Positions.{Positions}
 use Rattle.cmc_objects.specs.declared.entry.Entry.TheVariants.{Script, Call as Called, Deliver, List as Listed, Begin, End, Stop, Start, Tick}
 use Rattle.cmc_rules.specs.declared.effect.Effect.TheVariants as effects
 use Rattle.cmc_model.specs.declared.write.Write.{Write}
@@ -34,10 +35,8 @@ use Rattle.cmc_held.specs.declared.role_states.RoleState.{RoleState}
 use Rattle.cmc_kernel.specs.Kept.{role_state, Holdings, IsHoldingsOf, IsKept}
 use Rattle.cmc_kernel.specs.Changes.{telling, stopping, starting, writing, scripted_standing}
 use Rattle.cmc_held.specs.Dues.{shown_positions}
-use Rattle.cmc_rules.specs.Views.{Caches}
-use Rattle.cmc_caches.specs.Told.{caches_at}
 use Rattle.cmc_kernel.specs.Changes.{each_at}
-use Rattle.cmc_kernel.proofs.Caching.{IsTelling, caches_called, caches_delivered, caches_listed, caches_started}
+use Rattle.cmc_kernel.proofs.RolePositions.{IsTelling, told_delivered, told_listed, told_started}
 use Rattle.cmc_kernel.proofs.RoleStates.{standing_delivered, standing_listed, standing_stopped, standing_started, standing_scripted, standing_called}
 use Rattle.cmc_kernel.proofs.Said.{are_said, held_by, run_on}
 
@@ -46,14 +45,14 @@ one_other : (s : Setting) (h : List Entry) (w : Holdings) (f : RoleState → Rol
 one_other s h w f role r k =
     ap (λ (t : RoleState). if role_eq role r then f t else w.role_state r) (k.role_state role) ∙ ap (λ (t : RoleState). if role_eq role r then f (role_state s h role) else t) (k.role_state r)
 
-pub kept_delivered : (s : Setting) (h : List Entry) (w : Holdings) (role : Role) (kind : Kind) (to : ℕ) (t : Role → RoleState) (c : Role → Caches)
+pub kept_delivered : (s : Setting) (h : List Entry) (w : Holdings) (role : Role) (kind : Kind) (to : ℕ) (t : Role → RoleState) (c : Role → Positions)
     → IsKept s h w → IsDelivery s h role kind to → held s h role kind ≡ false → length h < s.events
     → ((r : Role) → t r ≡ (if role_eq role r then telling kind to (w.role_state role) else w.role_state r))
     → IsTelling w role kind to c
-    → IsKept s (Deliver role kind to ∷ h) (record w { role_state = t; caches = c })
+    → IsKept s (Deliver role kind to ∷ h) (record w { role_state = t; told = c })
 kept_delivered s h w role kind to t c k may free room put told = record {
-  held = held_by s (Deliver role kind to ∷ h) (record w { role_state = t; caches = c })
-      (λ i. record (are_said s h w k.held i) { role_state = λ r. (put r ∙ one_other s h w (telling kind to) role r k.held ∙ standing_delivered s h role kind to r) i; caches = λ r. caches_delivered s h w role kind to c k.held may.informed told r i })
+  held = held_by s (Deliver role kind to ∷ h) (record w { role_state = t; told = c })
+      (λ i. record (are_said s h w k.held i) { role_state = λ r. (put r ∙ one_other s h w (telling kind to) role r k.held ∙ standing_delivered s h role kind to r) i; told = λ r. told_delivered s h w role kind to c k.held may.informed told r i })
       (run_on s h (Deliver role kind to) k.held.run may tt (record { settled = k.settled; free = free }) room) k.held.formed;
   settled = refl;
 }
@@ -87,14 +86,14 @@ kept_ticked s h w now k due room = record {
   settled = refl;
 }
 
-pub kept_listed : (s : Setting) (h : List Entry) (w : Holdings) (role : Role) (kind : Kind) (to : ℕ) (t : Role → RoleState) (c : Role → Caches)
+pub kept_listed : (s : Setting) (h : List Entry) (w : Holdings) (role : Role) (kind : Kind) (to : ℕ) (t : Role → RoleState) (c : Role → Positions)
     → IsKept s h w → IsListing s h role kind to → held s h role kind ≡ false → length h < s.events
     → ((r : Role) → t r ≡ (if role_eq role r then telling kind to (w.role_state role) else w.role_state r))
     → IsTelling w role kind to c
-    → IsKept s (Listed role kind to ∷ h) (record w { role_state = t; caches = c })
+    → IsKept s (Listed role kind to ∷ h) (record w { role_state = t; told = c })
 kept_listed s h w role kind to t c k may free room put told = record {
-  held = held_by s (Listed role kind to ∷ h) (record w { role_state = t; caches = c })
-      (λ i. record (are_said s h w k.held i) { role_state = λ r. (put r ∙ one_other s h w (telling kind to) role r k.held ∙ standing_listed s h role kind to r) i; caches = λ r. caches_listed s h w role kind to c k.held may.informed told r i })
+  held = held_by s (Listed role kind to ∷ h) (record w { role_state = t; told = c })
+      (λ i. record (are_said s h w k.held i) { role_state = λ r. (put r ∙ one_other s h w (telling kind to) role r k.held ∙ standing_listed s h role kind to r) i; told = λ r. told_listed s h w role kind to c k.held may.informed told r i })
       (run_on s h (Listed role kind to) k.held.run may tt (record { settled = k.settled; free = free }) room) k.held.formed;
   settled = refl;
 }
@@ -122,7 +121,6 @@ kept_called s h w n p call reply st log t opened pasts k is right may room after
             ∙ ap (λ (x : RoleState). if is_accepted reply && role_eq p.role r then writing (key_of_call call).kind x else w.role_state r) (k.held.role_state p.role)
             ∙ ap (λ (x : RoleState). if is_accepted reply && role_eq p.role r then writing (key_of_call call).kind (role_state s h p.role) else x) (k.held.role_state r)
             ∙ standing_called s h n p call reply r is) i;
-        caches = λ r. (k.held.caches r ∙ caches_called s h (Pass n) call reply r k.held.run.legal) i;
         opened = λ m. (staged m ∙ ap (λ (o : Option OpenPass). if m == n then option_map (λ (q : OpenPass). with_stage (stage_after s h call reply q) q) o else o) (k.held.opened m)) i;
         past = λ r q.
             (noted r q
@@ -176,7 +174,6 @@ kept_users s h w call reply st log k due right room after logged = record {
         state = after i;
         log = (logged ∙ ap (λ (l : List Write). if is_accepted reply then write_of (moment s h) (state s h) (settled call reply) ∷ l else l) k.log) i;
         role_state = λ r. (k.role_state r ∙ uncounted (is_accepted reply) s h r) i;
-        caches = λ r. (k.caches r ∙ caches_called s h User call reply r k.run.legal) i;
       })
       (run_on s h (Called User call reply) k.run (right, tt) tt due room) k.formed;
   settled = refl;
@@ -205,17 +202,17 @@ kept_stopped s h w role t opened k due room put closed = record {
   settled = refl;
 }
 
-pub kept_started : (s : Setting) (h : List Entry) (w : Holdings) (role : Role) (at : ℕ) (t : Role → RoleState) (c : Role → Caches) (pasts : Role → Key → Past)
+pub kept_started : (s : Setting) (h : List Entry) (w : Holdings) (role : Role) (at : ℕ) (t : Role → RoleState) (c : Role → Positions) (pasts : Role → Key → Past)
     → IsHoldingsOf s h w → owed s h ≡ Some (effects.Start role at) → at ≤ accepted s h → length h < s.events
     → ((r : Role) → t r ≡ (if role_eq role r then starting at (w.role_state role) else w.role_state r))
-    → ((r : Role) → c r ≡ (if role_eq role r then caches_at w.log (shown_positions role (each_at at)) else w.caches r))
+    → ((r : Role) → c r ≡ (if role_eq role r then shown_positions role (each_at at) else w.told r))
     → ((r : Role) (k : Key) → pasts r k ≡ (if role_eq role r then no_past else w.past r k))
-    → IsKept s (Start role at ∷ h) (record w { role_state = t; caches = c; past = pasts })
+    → IsKept s (Start role at ∷ h) (record w { role_state = t; told = c; past = pasts })
 kept_started s h w role at t c pasts k due low room put told forgot = record {
-  held = held_by s (Start role at ∷ h) (record w { role_state = t; caches = c; past = pasts })
+  held = held_by s (Start role at ∷ h) (record w { role_state = t; told = c; past = pasts })
       (λ i. record (are_said s h w k i) {
         role_state = λ r. (put r ∙ one_other s h w (starting at) role r k ∙ standing_started s h role at r) i;
-        caches = λ r. caches_started s h w role at c k told r i;
+        told = λ r. told_started s h w role at c k told r i;
         past = λ r q. (forgot r q ∙ ap (λ (p : Past). if role_eq role r then no_past else p) (k.past r q)) i;
       })
       (run_on s h (Start role at) k.run low tt due room) k.formed;

@@ -27,7 +27,8 @@ use Rattle.cmc_held.specs.declared.role_states.RoleState.{RoleState}
 use Rattle.cmc_held.specs.RoleStates.{kind_flag_of}
 use Rattle.cmc_held.specs.Dues.{shown_positions}
 use Rattle.cmc_rules.specs.Sameness.{own_above}
-use Rattle.cmc_caches.proofs.Shown.{views-told}
+use Rattle.cmc_caches.specs.Told.{caches_at}
+use Rattle.cmc_caches.proofs.ViewsTold.{views-told}
 use Rattle.cmc_model.proofs.Writes.{writes_count}
 use Rattle.cmc_moves.specs.declared.moves.Stepped.{Stepped}
 use Rattle.cmc_moves.specs.declared.moves.Stepped.TheVariants.{Done}
@@ -148,8 +149,9 @@ pub newest_is : (s : Setting) (h : List Entry) (w : Holdings) (n : ℕ) → IsKe
 newest_is s h w n k e = e ∙ ap length k.held.log ∙ writes_count s h
 
 -- what a role sees in what a world says that it was told of
-pub saw : (s : Setting) (h : List Entry) (w : Holdings) (role : Role) (key : Key) (seen : Views) → IsKept s h w → seen ≡ views_in role (w.caches role) key → seen ≡ views s h role key
-saw s h w role key seen k is = is ∙ ap (λ (c : Caches). views_in role c key) (k.held.caches role) ∙ views-told s h role key
+pub saw : (s : Setting) (h : List Entry) (w : Holdings) (role : Role) (key : Key) (seen : Views) → IsKept s h w → seen ≡ views_in role (caches_at w.log (w.told role)) key → seen ≡ views s h role key
+saw s h w role key seen k is =
+    is ∙ ap (λ (ws : List Write). views_in role (caches_at ws (w.told role)) key) k.held.log ∙ ap (λ (at : Positions). views_in role (caches_at (writes s h) at) key) (k.held.told role) ∙ views-told s h role key
 
 pub shown_is : (s : Setting) (h : List Entry) (w : Holdings) (role : Role) (t : RoleState) (at : Positions) → IsKept s h w → t ≡ w.role_state role → at ≡ shown_positions role t.told → at ≡ positions h role
 shown_is s h w role t at k stood shown = shown ∙ ap (λ (x : RoleState). shown_positions role x.told) (stood ∙ k.held.role_state role)

@@ -1,20 +1,15 @@
--- What stands was written: the key of an object that stands is one that an accepted write named.
+-- No object stands under a key that no accepted write named.
 use Rattle.std.proofs.Common.{◌≡◌, List, [], ◌∷◌, None, Bool, true, false, cond, refl, sym, ap, subst, ◌∙◌}
-use Rattle.std.specs.Prelude.{◌||◌, is_some}
+use Rattle.std.specs.Prelude.{◌||◌}
 use Rattle.std.specs.FinMap.{get-empty}
 use Rattle.std.specs.Ordering.{eq_by_cmp}
 use Rattle.std.proofs.lemmas.Bool.{or_parts}
 use Rattle.cmc_meta.specs.declared.key.Key.{Key}
 use Rattle.cmc_meta.specs.Keys.{key_cmp, key_eq}
-use Rattle.cmc_objects.specs.declared.entry.Entry.{Entry}
 use Rattle.cmc_model.specs.declared.write.Write.{Write}
-use Rattle.cmc_model.specs.Objects.{Objects, object_at}
-use Rattle.cmc_model.specs.Replies.{State}
-use Rattle.cmc_model.specs.Histories.{Setting}
+use Rattle.cmc_model.specs.Objects.{object_at}
 use Rattle.cmc_model.specs.Writes.{contents, is_known}
 use Rattle.cmc_model.proofs.Versions.{object_at-put}
-use Rattle.cmc_model.proofs.Writes.{writes_leave}
-use Rattle.cmc_kernel.specs.Kept.{Holdings, IsKept}
 use Rattle.cmc_kernel.proofs.OneKind.{same_at}
 use Rattle.cmc_kernel.proofs.SameKeys.{key_eq-refl}
 
@@ -26,7 +21,6 @@ unequal q k true is apart =
     absurd (cc (on, apart))
 unequal q k false is apart = refl
 
--- no object stands under a key that no write named
 pub none_under : (key : Key) (ws : List Write) → is_known key ws ≡ false → object_at (contents ws) key ≡ None
 unfolding contents
 none_under key [] none = get-empty key_cmp key
@@ -35,14 +29,3 @@ none_under key (w ∷ ws) none =
     object_at-put (contents ws) w.key w.object key
     ∙ ap (λ (b : Bool). cond b w.object (object_at (contents ws) key)) (unequal key w.key (eq_by_cmp key_cmp key w.key) refl parts.0)
     ∙ none_under key ws parts.1
-
-known_by : (b : Bool) (s : Setting) (h : List Entry) (w : Holdings) (key : Key) → is_known key w.log ≡ b → IsKept s h w → is_some (object_at w.state.objects key) ≡ true → b ≡ true
-known_by true s h w key known k on = refl
-known_by false s h w key none k on =
-    let same : contents w.log ≡ w.state.objects = ap contents k.held.log ∙ writes_leave s h ∙ ap (λ (st : State). st.objects) (sym k.held.state) in
-    let at : object_at w.state.objects key ≡ None = ap (λ (o : Objects). object_at o key) (sym same) ∙ none_under key w.log none in
-    let off : is_some (object_at w.state.objects key) ≡ false = ap is_some at in
-    absurd (cc (on, off))
-
-pub known_where_stands : (s : Setting) (h : List Entry) (w : Holdings) (key : Key) → IsKept s h w → is_some (object_at w.state.objects key) ≡ true → is_known key w.log ≡ true
-known_where_stands s h w key k on = known_by (is_known key w.log) s h w key refl k on

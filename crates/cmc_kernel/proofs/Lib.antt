@@ -1,7 +1,8 @@
 pub mod RoleStates
 pub mod Origins
 pub mod SameKeys
-pub mod Caching
+pub mod RolePositions
+pub mod Known
 pub mod Said
 pub mod Events
 pub mod Judging
@@ -14,7 +15,6 @@ pub mod Begins
 pub mod Stepping
 pub mod StepAnswers
 pub mod OneKind
-pub mod Known
 pub mod Newest
 pub mod Idling
 pub mod Leading

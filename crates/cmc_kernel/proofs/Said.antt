@@ -15,7 +15,6 @@ use Rattle.cmc_rules.specs.Runs.{IsPartOfRun, IsRun}
 use Rattle.cmc_rules.specs.Desks.{asked}
 use Rattle.cmc_held.specs.Questioned.{asks_key_at, asks_issuer_at}
 use Rattle.cmc_safety.specs.Formed.{IsFormed}
-use Rattle.cmc_caches.specs.Told.{caches_at}
 use Rattle.cmc_kernel.specs.Kept.{first_desk, role_state, Holdings, IsHoldingsOf, IsKept}
 
 -- what the history says of each part
@@ -27,7 +26,7 @@ said s h = record {
   moment = moment s h;
   made = scripted h;
   role_state = role_state s h;
-  caches = λ r. caches_at (writes s h) (positions h r);
+  told = λ r. positions h r;
   origins = origins s h;
   opened = open_pass s h;
   past = past s h;
@@ -45,7 +44,7 @@ are_said s h w k = λ i. record {
   moment = k.moment i;
   made = k.made i;
   role_state = λ r. k.role_state r i;
-  caches = λ r. k.caches r i;
+  told = λ r. k.told r i;
   origins = k.origins i;
   opened = λ n. k.opened n i;
   past = λ r q. k.past r q i;
@@ -63,7 +62,7 @@ held_by s h w is run formed = record {
   moment = λ i. (is i).moment;
   made = λ i. (is i).made;
   role_state = λ r i. (is i).role_state r;
-  caches = λ r i. (is i).caches r;
+  told = λ r i. (is i).told r;
   origins = λ i. (is i).origins;
   opened = λ n i. (is i).opened n;
   past = λ r q i. (is i).past r q;

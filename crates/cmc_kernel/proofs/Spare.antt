@@ -3,7 +3,6 @@ use Rattle.std.proofs.Common.{◌≡◌, ℕ, List, Option, sym, subst, ◌∙�
 use Rattle.cmc_meta.specs.declared.key.Key.{Key}
 use Rattle.cmc_objects.specs.declared.role.Role.{Role}
 use Rattle.cmc_objects.specs.declared.entry.Entry.{Entry}
-use Rattle.cmc_model.specs.declared.write.Write.{Write}
 use Rattle.cmc_model.specs.Histories.{Setting}
 use Rattle.cmc_model.specs.Replies.{State}
 use Rattle.cmc_rules.specs.declared.progress.OpenPass.{OpenPass}
@@ -12,20 +11,20 @@ use Rattle.cmc_rules.specs.declared.progress.Past.{Past}
 use Rattle.cmc_kernel.specs.Kept.{Holdings, IsKept}
 
 -- each part is what it was
-pub kept_spare : (s : Setting) (h k : List Entry) (w : Holdings) (faults : List ℕ) (st : State) (log : List Write) (os : List Origin) (opened : ℕ → Option OpenPass) (pasts : Role → Key → Past)
-    → IsKept s h w → k ≡ h → faults ≡ w.faults → st ≡ w.state → log ≡ w.log → os ≡ w.origins → ((n : ℕ) → opened n ≡ w.opened n) → ((r : Role) (q : Key) → pasts r q ≡ w.past r q)
-    → IsKept s k (record w { faults = faults; state = st; log = log; origins = os; opened = opened; past = pasts })
-kept_spare s h k w faults st log os opened pasts kept same f t l o p q =
-    subst (λ (x : List Entry). IsKept s x (record w { faults = faults; state = st; log = log; origins = os; opened = opened; past = pasts })) (sym same)
+pub kept_spare : (s : Setting) (h k : List Entry) (w : Holdings) (faults : List ℕ) (st : State) (os : List Origin) (opened : ℕ → Option OpenPass) (pasts : Role → Key → Past)
+    → IsKept s h w → k ≡ h → faults ≡ w.faults → st ≡ w.state → os ≡ w.origins → ((n : ℕ) → opened n ≡ w.opened n) → ((r : Role) (q : Key) → pasts r q ≡ w.past r q)
+    → IsKept s k (record w { faults = faults; state = st; origins = os; opened = opened; past = pasts })
+kept_spare s h k w faults st os opened pasts kept same f t o p q =
+    subst (λ (x : List Entry). IsKept s x (record w { faults = faults; state = st; origins = os; opened = opened; past = pasts })) (sym same)
     (record {
       held = record {
         faults = f ∙ kept.held.faults;
         state = t ∙ kept.held.state;
-        log = l ∙ kept.held.log;
+        log = kept.held.log;
         moment = kept.held.moment;
         made = kept.held.made;
         role_state = kept.held.role_state;
-        caches = kept.held.caches;
+        told = kept.held.told;
         origins = o ∙ kept.held.origins;
         opened = λ n. p n ∙ kept.held.opened n;
         past = λ r key. q r key ∙ kept.held.past r key;

@@ -1,10 +1,12 @@
 -- What a new world holds is what the empty history says.
 use Rattle.std.proofs.Common.{◌≡◌, ◌∙◌, ℕ, ℤ, pos, Bool, true, false, [], None, arith, refl}
 use Rattle.std.proofs.lemmas.Int.{ints}
-use Rattle.std.specs.Prelude.{◌≤ℤ◌, neg_ℤ, int_le}
+use Rattle.std.specs.Prelude.{◌≤ℤ◌, neg_ℤ, int_le, if◌then◌else◌}
 use Rattle.std.specs.List.{list_any}
 use Rattle.cmc_meta.specs.declared.key.Key.{Key}
+use Rattle.cmc_meta.specs.declared.key.Kind.TheVariants as kinds
 use Rattle.cmc_objects.specs.declared.role.Role.{Role}
+use Rattle.cmc_objects.specs.Informers.{has_informer}
 use Rattle.cmc_objects.specs.Requests.{is_run_time}
 use Rattle.cmc_model.specs.Replies.{empty_store}
 use Rattle.cmc_model.specs.Histories.{role_eq}
@@ -15,9 +17,8 @@ use Rattle.cmc_rules.specs.UserSteps.{Follows}
 use Rattle.cmc_setup.specs.Setups.{Setup, IsSetup}
 use Rattle.cmc_held.specs.declared.questions.Subject.{Subject}
 use Rattle.cmc_held.specs.RoleStates.{first_role_state}
-use Rattle.cmc_model.specs.Writes.{contents, oldest}
 use Rattle.cmc_rules.specs.Positions.{positions}
-use Rattle.cmc_caches.specs.Told.{caches_at, empty_caches}
+use Rattle.cmc_caches.specs.Posted.{untold}
 use Rattle.cmc_safety.specs.Formed.{IsFormed}
 use Rattle.cmc_kernel.specs.Kept.{Holdings, IsKept, first_desk, setting_of}
 use borrow.Author.Differences.{le-false}
@@ -39,13 +40,16 @@ formed u setup = record {
   steps = setup.steps;
 }
 
--- of no writes nothing is told
-nothing_at : (r : Role) → empty_caches ≡ caches_at [] (positions [] r)
-unfolding contents oldest
-nothing_at r = refl
+-- before any entry nothing is told
+zero_if : (b : Bool) → ◌≡◌ {A = ℕ} 0 (if b then 0 else 0)
+zero_if true = refl
+zero_if false = refl
+
+nothing_at : (r : Role) → untold ≡ positions [] r
+nothing_at r = λ i. record { certificates = zero_if (has_informer r kinds.Certificate) i; requests = zero_if (has_informer r kinds.CertificateRequest) i; secrets = zero_if (has_informer r kinds.Secret) i }
 
 pub kept_new : (u : Setup) (w : Holdings) → w.faults ≡ u.faults → w.state ≡ empty_store → w.log ≡ [] → w.moment ≡ u.moment → w.made ≡ 0
-    → ((r : Role) → w.role_state r ≡ first_role_state (list_any (λ role. role_eq role r) u.roles)) → ((r : Role) → w.caches r ≡ empty_caches) → w.origins ≡ [] → ((n : ℕ) → w.opened n ≡ None)
+    → ((r : Role) → w.role_state r ≡ first_role_state (list_any (λ role. role_eq role r) u.roles)) → ((r : Role) → w.told r ≡ untold) → w.origins ≡ [] → ((n : ℕ) → w.opened n ≡ None)
     → ((r : Role) (k : Key) → w.past r k ≡ no_past) → ((c : Subject) → w.keys_asked c ≡ 0) → ((c : Subject) → w.answers_asked c ≡ 0) → w.desk ≡ first_desk (setting_of u) → IsSetup u → IsKept (setting_of u) [] w
 unfolding IsLegal IsCaused Follows
 kept_new u w f s l m n t c o p q x y d setup = record {
@@ -60,7 +64,7 @@ kept_new u w f s l m n t c o p q x y d setup = record {
     moment = m;
     made = n;
     role_state = t;
-    caches = λ r. c r ∙ nothing_at r;
+    told = λ r. c r ∙ nothing_at r;
     origins = o;
     opened = p;
     past = q;

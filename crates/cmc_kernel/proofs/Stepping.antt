@@ -11,6 +11,7 @@ use Rattle.cmc_objects.specs.declared.entry.Step.{Step}
 use Rattle.cmc_objects.specs.declared.entry.Step.TheVariants as steps
 use Rattle.cmc_objects.specs.declared.entry.Who.TheVariants.{User}
 use Rattle.cmc_objects.specs.declared.entry.Entry.{Entry}
+use Rattle.cmc_objects.specs.declared.entry.Positions.{Positions}
 use Rattle.cmc_objects.specs.declared.entry.Entry.TheVariants.{Script, Call as Called, Stop, Start, Tick}
 use Rattle.cmc_rules.specs.declared.effect.Effect.{Effect}
 use Rattle.cmc_rules.specs.declared.effect.Effect.TheVariants as effects
@@ -32,8 +33,6 @@ use Rattle.cmc_held.specs.declared.role_states.RoleState.{RoleState}
 use Rattle.cmc_moves.specs.declared.moves.Stepped.TheVariants.{Done}
 use Rattle.cmc_moves.specs.Answers.{AnswersScript, entries_of, next_effect}
 use Rattle.cmc_held.specs.Dues.{shown_positions}
-use Rattle.cmc_rules.specs.Views.{Caches}
-use Rattle.cmc_caches.specs.Told.{caches_at}
 use Rattle.cmc_kernel.specs.Changes.{each_at, stopping, starting, scripted_standing}
 use Rattle.cmc_kernel.specs.Kept.{setting_of, Holdings, IsHoldingsOf, IsKept}
 use Rattle.cmc_kernel.specs.Notes.{logged}
@@ -168,16 +167,16 @@ start_low s h w role at kept may due =
     omega (arith, low, count)
 
 -- a start
-pub start_kept : (s : Setting) (h k : List Entry) (w : Holdings) (made : ℕ) (role : Role) (at : ℕ) (t : Role → RoleState) (c : Role → Caches) (pasts : Role → Key → Past)
+pub start_kept : (s : Setting) (h k : List Entry) (w : Holdings) (made : ℕ) (role : Role) (at : ℕ) (t : Role → RoleState) (c : Role → Positions) (pasts : Role → Key → Past)
     → IsKept s h w → AnswersScript s h Done → next_effect s h ≡ Some (effects.Start role at) → made ≡ w.made + 1
     → ((r : Role) → t r ≡ (if role_eq role r then starting at (w.role_state role) else w.role_state r))
-    → ((r : Role) → c r ≡ (if role_eq role r then caches_at w.log (shown_positions role (each_at at)) else w.caches r))
+    → ((r : Role) → c r ≡ (if role_eq role r then shown_positions role (each_at at) else w.told r))
     → ((r : Role) (key : Key) → pasts r key ≡ (if role_eq role r then no_past else w.past r key))
-    → k ≡ Start role at ∷ Script made ∷ h → IsKept s k (record w { made = made; role_state = t; caches = c; past = pasts })
+    → k ≡ Start role at ∷ Script made ∷ h → IsKept s k (record w { made = made; role_state = t; told = c; past = pasts })
 start_kept s h k w made role at t c pasts kept may due counted put told forgot grown =
     let stepped = step_made s h w made (effects.Start role at) kept may due counted in
     let next = next_is s h (step_at s.script (scripted h + 1)) (Some (effects.Start role at)) refl (may_step s h may).left due in
-    subst (λ l. IsKept s l (record w { made = made; role_state = t; caches = c; past = pasts })) (sym (numbered s h k w made (Start role at) kept.held counted grown))
+    subst (λ l. IsKept s l (record w { made = made; role_state = t; told = c; past = pasts })) (sym (numbered s h k w made (Start role at) kept.held counted grown))
     (kept_started s (Script (scripted h + 1) ∷ h) (record w { made = made }) role at t c pasts stepped.0 due (low_start s h next.0 role at next.1.has) (omega (arith, stepped.1)) put told forgot)
 
 logged_kept : (s : Setting) (h : List Entry) (w : Holdings) (call : Call) (reply : Reply) (now : ℤ) (log grown : List Write) (key : Option Key) (object : Option Object)

@@ -4,6 +4,7 @@ use Rattle.cmc_meta.specs.declared.key.Key.{Key}
 use Rattle.cmc_meta.specs.declared.key.Kind.TheVariants as kinds
 use Rattle.cmc_objects.specs.declared.role.Role.{Role}
 use Rattle.cmc_objects.specs.declared.entry.Entry.{Entry}
+use Rattle.cmc_objects.specs.declared.entry.Positions.{Positions}
 use Rattle.cmc_pass.specs.declared.pass.Desk.{Desk}
 use Rattle.cmc_model.specs.declared.write.Write.{Write}
 use Rattle.cmc_rules.specs.declared.progress.OpenPass.{OpenPass}
@@ -13,7 +14,6 @@ use Rattle.cmc_model.specs.Replies.{State}
 use Rattle.cmc_model.specs.Histories.{Setting, moment, state, runs, incarnation}
 use Rattle.cmc_model.specs.Writes.{writes}
 use Rattle.cmc_rules.specs.Positions.{position, positions}
-use Rattle.cmc_rules.specs.Views.{Caches}
 use Rattle.cmc_rules.specs.Passes.{open_pass}
 use Rattle.cmc_rules.specs.Origins.{origins}
 use Rattle.cmc_rules.specs.Memory.{past}
@@ -26,7 +26,6 @@ use Rattle.cmc_safety.specs.Formed.{IsFormed}
 use Rattle.cmc_held.specs.declared.role_states.RoleState.{RoleState}
 use Rattle.cmc_held.specs.declared.questions.Subject.{Subject}
 use Rattle.cmc_held.specs.Questioned.{asks_key_at, asks_issuer_at}
-use Rattle.cmc_caches.specs.Told.{caches_at}
 
 -- what contracts see of a world
 pub record Seen : Type 0 where
@@ -62,7 +61,7 @@ role_state s h role = record {
 }
 
 -- what is held: the store, the log of accepted writes, the moment, the steps that were made, how each role stands,
--- what it was told of, where passes come from, which are open, what each role remembers of each key, how many questions
+-- how far it was told of each kind, where passes come from, which are open, what each role remembers of each key, how many questions
 -- were asked, and what roles decide by
 pub record Holdings : Type 0 where
   pub faults : List ℕ
@@ -71,7 +70,7 @@ pub record Holdings : Type 0 where
   pub moment : ℤ
   pub made : ℕ
   pub role_state : Role → RoleState
-  pub caches : Role → Caches
+  pub told : Role → Positions
   pub origins : List Origin
   pub opened : ℕ → Option OpenPass
   pub past : Role → Key → Past
@@ -91,7 +90,7 @@ pub record IsHoldingsOf (s : Setting) (h : List Entry) (w : Holdings) : Type 0 w
   pub moment : w.moment ≡ moment s h
   pub made : w.made ≡ scripted h
   pub role_state : (role : Role) → w.role_state role ≡ role_state s h role
-  pub caches : (role : Role) → w.caches role ≡ caches_at (writes s h) (positions h role)
+  pub told : (role : Role) → w.told role ≡ positions h role
   pub origins : w.origins ≡ origins s h
   pub opened : (n : ℕ) → w.opened n ≡ open_pass s h n
   pub past : (role : Role) (key : Key) → w.past role key ≡ past s h role key

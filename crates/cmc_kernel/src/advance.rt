@@ -179,7 +179,7 @@ impl Kernel {
         self.is_short();
         let calling = self.calling(pass, call)?;
         self.history.reserve(1)?;
-        self.log.reserve(1)?;
+        self.caches.reserve(1)?;
         self.memories.ready(calling.role, &calling.key)?;
         let replied = self.store.call(alloc, self.moment, &calling.call)?;
         let entry = self.history.len() + 1;
@@ -188,11 +188,11 @@ impl Kernel {
             pass,
             calling.stand_in,
             entry,
-            &self.log,
+            &self.caches,
             &calling.named,
             &replied.reply,
         );
-        let version = self.log.accepted() + 1;
+        let version = self.caches.log().accepted() + 1;
         let written = kind_written(&replied.key);
         note_write(
             &mut self.role_states,
@@ -204,7 +204,7 @@ impl Kernel {
         );
         self.passes.advance(pass, stage);
         let Replied { reply, key, object } = replied;
-        log_write(&mut self.log, key, object);
+        log_write(&mut self.caches, key, object);
         self.history.push(Entry::Call {
             who: Who::Pass(pass),
             call: calling.into_call(),

@@ -1,6 +1,6 @@
 //! Roles begin passes.
 ghost use Rattle.std.specs.Option.{option_copied};
-ghost use Rattle.std.specs.Prelude.{◌≡◌, ◌↔◌, ◌<◌, ◌∷◌, ◌&&◌, not, IsTrue, IfOk, OnOk, OnErr, true, is_some};
+ghost use Rattle.std.specs.Prelude.{◌≡◌, ◌↔◌, ◌<◌, ◌∷◌, ◌&&◌, not, IsTrue, IfOk, OnOk, OnErr, true};
 ghost use Rattle.cmc_rules.specs.Sameness as sameness;
 ghost use Rattle.cmc_held.specs.OneRun.{IsOfOneRun};
 ghost use Rattle.cmc_held.specs.Remembered.{past_or_new};
@@ -12,7 +12,6 @@ ghost use Rattle.cmc_model.specs.Histories.{moment, runs};
 ghost use Rattle.cmc_rules.specs.Views.{views};
 ghost use Rattle.cmc_rules.specs.Sameness.{IsDue, IsSame};
 ghost use Rattle.cmc_objects.specs.Informers as spec;
-ghost use Rattle.cmc_model.specs.Objects.{object_at};
 ghost use Rattle.cmc_model.specs.Writes.{is_known};
 ghost use Rattle.cmc_moves.specs.Answers.{AnswersBegin, IsQueued, Leaves, beginning};
 ghost use Rattle.cmc_kernel.specs.Kept.{on};
@@ -21,13 +20,13 @@ ghost use Rattle.cmc_moves.specs.declared.moves.Move.TheVariants as moves;
 ghost use Rattle.cmc_moves.specs.declared.moves.Stepped.TheVariants as answers;
 
 use crate::kernel::{Kernel, has_room};
-use cmc_held::{Log, is_same, own_above, shown_positions};
+use cmc_caches::Caches;
+use cmc_held::{is_same, own_above, shown_positions};
 use cmc_meta::Key;
 use cmc_moves::{Stepped, answer_begin};
 use cmc_objects::{Entry, Positions, Role, kind_of_work};
 use cmc_pass::Views;
 use cmc_rules::{OpenPass, Origin, Past, Stage};
-use cmc_store::Store;
 use std::alloc::{AllocError, Global};
 
 /// A pass that is ready to begin.
@@ -67,31 +66,11 @@ fn is_again(past: Option<&Past>, seen: &Views, now: i64, at: Positions) -> bool
     }
 }
 
-/// Whether an object exists under the key.
-fn stands(store: &Store, key: &Key) -> bool
-    ensures { result ≡ is_some (object_at store.now.state.objects key.now) }
-{
-    matches!(store.peek(key), Some(_))
-}
-
-/// Whether an accepted write named the key. Of a key under which an object stands it is known without a look at all
-/// writes.
-fn is_named(stands: bool, log: &Log, key: &Key) -> bool
-    requires { stands ≡ true → is_known key.now log.now.writes ≡ true }
-    ensures { result ≡ is_known key.now log.now.writes }
-{
-    if stands {
-        return true;
-    }
-    log.knows(key)
-}
-
 /// Whether the key is one of the role's kind of work, and an accepted write named it.
-fn is_of_work(stands: bool, log: &Log, role: Role, key: &Key) -> bool
-    requires { stands ≡ true → is_known key.now log.now.writes ≡ true }
-    ensures { IsTrue result ↔ ((key.now.kind ≡ spec.kind_of_work role) × (is_known key.now log.now.writes ≡ true)) }
+fn is_of_work(caches: &Caches, role: Role, key: &Key) -> bool
+    ensures { IsTrue result ↔ ((key.now.kind ≡ spec.kind_of_work role) × (is_known key.now caches.now.writes ≡ true)) }
 {
-    key.kind.same(kind_of_work(role)) && is_named(stands, log, key)
+    key.kind.same(kind_of_work(role)) && caches.knows(key)
 }
 
 /// Whether a key of the role's work is in its queue.
@@ -133,7 +112,7 @@ impl Kernel {
         let own = own_write(past, at);
         self.saw_one_run(role, key);
         let same = is_again(past, seen, self.moment, at);
-        let of_work = is_of_work(stands(&self.store, key), &self.log, role, key);
+        let of_work = is_of_work(&self.caches, role, key);
         let quiet = self.is_quiet(alloc, role, key, seen)?;
         let queued = is_queued(of_work, quiet);
         let entries = self.history.len();

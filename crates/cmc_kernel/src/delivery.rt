@@ -42,8 +42,9 @@ impl Kernel {
     {
         let standing = self.role_states.get(role);
         let position = told_of(standing, kind);
-        let newest = self.log.last_of_kind(kind);
-        let news = is_news(&self.log, position, to, kind);
+        let log = self.caches.log();
+        let newest = log.last_of_kind(kind);
+        let news = is_news(log, position, to, kind);
         let entries = self.history.len();
         let room = has_room(entries, self.scenario.events(), 1);
         answer_delivery(
@@ -64,7 +65,11 @@ impl Kernel {
         ensures { IsTrue result ↔ (on accepted self.now ≤ position self.now.history role kind + self.now.scenario.window) }
     {
         let position = told_of(self.role_states.get(role), kind);
-        reaches(self.log.accepted(), position, self.scenario.window())
+        reaches(
+            self.caches.log().accepted(),
+            position,
+            self.scenario.window(),
+        )
     }
 
     fn deliver(&mut self, alloc: Global, role: Role, kind: Kind, to: u64) -> Result<(), AllocError>
@@ -75,10 +80,8 @@ impl Kernel {
         ensures err { OnErr result (self.new ≡ self.old) }
     {
         self.history.reserve(1)?;
+        self.caches.tell(alloc, role, kind, to)?;
         let standing = self.role_states.get(role);
-        let from = told_of(standing, kind);
-        self.caches
-            .tell(alloc, role, self.log.as_slice(), kind, from, to)?;
         self.role_states.set(role, with_told(standing, kind, to));
         self.history.push(Entry::Deliver { role, kind, to });
         Ok(())
@@ -92,10 +95,8 @@ impl Kernel {
         ensures err { OnErr result (self.new ≡ self.old) }
     {
         self.history.reserve(1)?;
+        self.caches.tell(alloc, role, kind, to)?;
         let standing = self.role_states.get(role);
-        let from = told_of(standing, kind);
-        self.caches
-            .tell(alloc, role, self.log.as_slice(), kind, from, to)?;
         self.role_states.set(role, with_told(standing, kind, to));
         self.history.push(Entry::List { role, kind, to });
         Ok(())
@@ -110,7 +111,7 @@ impl Kernel {
         if self.reaches_back(role, kind) {
             return self.deliver(alloc, role, kind, to);
         }
-        let newest = self.log.accepted();
+        let newest = self.caches.log().accepted();
         self.list(alloc, role, kind, newest)
     }
 

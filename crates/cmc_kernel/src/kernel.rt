@@ -22,7 +22,7 @@ ghost use Rattle.cmc_kernel.specs.Leads.{Lead, Extends};
 ghost use Rattle.cmc_moves.specs.declared.moves.Move.{Move as MoveValue};
 
 use cmc_caches::Caches;
-use cmc_held::{Log, Origins, Passes, Questions, RoleMemories, RoleStates};
+use cmc_held::{Origins, Passes, Questions, RoleMemories, RoleStates};
 use cmc_history::History;
 use cmc_meta::{Key, Numbers};
 use cmc_objects::{Object, Role};
@@ -43,8 +43,6 @@ pub struct Kernel {
     /// The objects after all calls of the history, the accepted writes and the calls counted, and the calls that
     /// fail.
     pub(crate) store: Store,
-    /// The accepted writes of the history.
-    pub(crate) log: Log,
     /// All that was done. Every other field is what this says, and is kept so that nothing has to read it again.
     pub(crate) history: History,
     /// The scenario's moment, or that of the last tick.
@@ -54,7 +52,7 @@ pub struct Kernel {
     /// Of each role whether it runs and in which incarnation, how far it was told of each kind, and which of its
     /// informers are held.
     pub(crate) role_states: RoleStates,
-    /// Of each role and kind the objects up to where it was told.
+    /// The accepted writes of the history, and how far each role was told of them.
     pub(crate) caches: Caches,
     /// Of each pass that was begun its role and the incarnation in which it began.
     pub(crate) origins: Origins,
@@ -69,7 +67,7 @@ pub struct Kernel {
 }
 
 impl Model for Kernel {
-    ghost use Rattle.cmc_caches.specs.Told.{caches_of};
+    ghost use Rattle.cmc_caches.specs.Posted.{told_of};
     ghost use Rattle.cmc_held.specs.Open.{pass_at};
     ghost use Rattle.cmc_held.specs.Questioned.{count_under};
     ghost use Rattle.cmc_held.specs.Remembered.{past_at};
@@ -80,7 +78,7 @@ impl Model for Kernel {
 
     ghost view = { λ w. record { scenario = w.scenario; history = w.history.entries } };
 
-    ghost invariant = { λ w. IsKept (setting_of w.scenario) w.history.entries (record { faults = w.store.faults; state = w.store.state; log = w.log.writes; moment = w.moment; made = w.made; role_state = λ role. role_state_of w.role_states role; caches = λ role. caches_of w.caches role; origins = w.origins.origins; opened = λ n. pass_at w.passes n; past = λ role key. past_at w.memories role key; keys_asked = count_under w.questions.keys; answers_asked = count_under w.questions.answers; desk = w.desk }) };
+    ghost invariant = { λ w. IsKept (setting_of w.scenario) w.history.entries (record { faults = w.store.faults; state = w.store.state; log = w.caches.writes; moment = w.moment; made = w.made; role_state = λ role. role_state_of w.role_states role; told = λ role. told_of w.caches.told role; origins = w.origins.origins; opened = λ n. pass_at w.passes n; past = λ role key. past_at w.memories role key; keys_asked = count_under w.questions.keys; answers_asked = count_under w.questions.answers; desk = w.desk }) };
 }
 
 impl Drop for Kernel {
@@ -88,7 +86,6 @@ impl Drop for Kernel {
         let Kernel {
             scenario: _scenario,
             store: _store,
-            log: _log,
             history: _history,
             moment: _moment,
             made: _made,
@@ -152,7 +149,6 @@ impl Kernel {
         Ok(Kernel {
             scenario,
             store: Store::seeded(alloc, seed, faults),
-            log: Log::new(alloc),
             history: History::new(alloc),
             moment,
             made: 0,

@@ -15,7 +15,8 @@ ghost use Rattle.cmc_held.specs.RoleStates.{role_state_of};
 ghost use Rattle.cmc_kernel.specs.Changes.{writing};
 ghost use Rattle.cmc_kernel.specs.Notes.{CanCount, own_write_counted, logged, noted};
 
-use cmc_held::{Log, Passes, RoleMemories, RoleState, RoleStates, with_written, written_of};
+use cmc_caches::Caches;
+use cmc_held::{Passes, RoleMemories, RoleState, RoleStates, with_written, written_of};
 use cmc_match::is_temporary;
 use cmc_meta::{Key, Kind};
 use cmc_model::Write;
@@ -76,11 +77,11 @@ fn stage_by(
     current: &OpenPass,
     stand_in: bool,
     entry: u64,
-    log: &Log,
+    caches: &Caches,
     named: &Key,
     reply: &Reply,
 ) -> Stage
-    ensures { result ≡ spec.stage_by current.now.seen.certificate stand_in current.now.stage entry named.now.kind (last_under named.now log.now.writes) reply.now }
+    ensures { result ≡ spec.stage_by current.now.seen.certificate stand_in current.now.stage entry named.now.kind (last_under named.now caches.now.writes) reply.now }
 {
     let kind = named.kind;
     match reply {
@@ -93,8 +94,8 @@ fn stage_by(
             object.meta().version,
         ),
         Reply::Conflict { have, .. } => newer(entry, kind, *have),
-        // Only here is the last write asked for: the search for it goes over all writes.
-        Reply::NotFound { .. } => newer(entry, kind, log.last_under(named)),
+        // Only here is the last write asked for.
+        Reply::NotFound { .. } => newer(entry, kind, caches.last_under(named)),
         Reply::AlreadyExists { have } => newer(entry, kind, *have),
         Reply::Invalid { .. } => Stage::Barred,
         Reply::Unavailable { .. } => Stage::Refused {
@@ -105,20 +106,20 @@ fn stage_by(
 }
 
 /// How far the open pass of this number has come whose call under this key was answered so in the entry of this number.
-/// The log is that from before the call.
+/// The accepted writes are those from before the call.
 pub(crate) fn stage_of(
     passes: &Passes,
     pass: u64,
     stand_in: bool,
     entry: u64,
-    log: &Log,
+    caches: &Caches,
     named: &Key,
     reply: &Reply,
 ) -> Stage
-    ensures { (p : OpenPassValue) → pass_at passes.now pass ≡ Some p → result ≡ spec.stage_by p.seen.certificate stand_in p.stage entry named.now.kind (last_under named.now log.now.writes) reply.now }
+    ensures { (p : OpenPassValue) → pass_at passes.now pass ≡ Some p → result ≡ spec.stage_by p.seen.certificate stand_in p.stage entry named.now.kind (last_under named.now caches.now.writes) reply.now }
 {
     match passes.get(pass) {
-        Some(open) => stage_by(open, stand_in, entry, log, named, reply),
+        Some(open) => stage_by(open, stand_in, entry, caches, named, reply),
         None => Stage::Barred,
     }
 }
@@ -133,13 +134,14 @@ fn newer(entry: u64, kind: Kind, version: u64) -> Stage
     }
 }
 
-/// Adds what a call wrote to the log, where it wrote a key. It takes no memory.
-pub(crate) fn log_write(log: &mut Log, key: Option<Key>, object: Option<Object>)
-    requires { 0 < log.old.spare }
-    ensures { log.new.writes ≡ logged key object log.old.writes }
+/// Adds what a call wrote to the accepted writes, where it wrote a key. It takes no memory.
+pub(crate) fn log_write(caches: &mut Caches, key: Option<Key>, object: Option<Object>)
+    requires { 0 < caches.old.spare }
+    ensures writes { caches.new.writes ≡ logged key object caches.old.writes }
+    ensures told { caches.new.told ≡ caches.old.told }
 {
     if let Some(key) = key {
-        log.push(Write { key, object });
+        caches.push(Write { key, object });
     }
 }
 

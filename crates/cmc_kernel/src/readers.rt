@@ -13,7 +13,7 @@ ghost use Rattle.cmc_rules.specs.Positions.{positions};
 ghost use Rattle.cmc_rules.specs.Scripts.{held};
 ghost use Rattle.cmc_rules.specs.Views.{views};
 ghost use Rattle.cmc_model.specs.Writes.{writes};
-ghost use Rattle.cmc_caches.specs.Told.{caches_at, caches_of};
+ghost use Rattle.cmc_caches.specs.Posted.{told_of};
 ghost use Rattle.cmc_held.specs.Open.{pass_at};
 ghost use Rattle.cmc_held.specs.Remembered.{past_or_new};
 ghost use Rattle.cmc_kernel.specs.Kept.{on};
@@ -40,7 +40,7 @@ impl Kernel {
     pub fn log(&self) -> &Log
         ensures { result.now.writes ≡ on writes self.now }
     {
-        &self.log
+        self.caches.log()
     }
 
     /// The passes that are open.
@@ -78,9 +78,10 @@ impl Kernel {
         self.caches.views(alloc, role, key)
     }
 
-    /// What each role was told of: of each kind, what the writes of the kind up to its position leave.
+    /// The accepted writes, and how far each role was told of each kind.
     pub fn caches(&self) -> &Caches
-        ensures { (role : RoleValue) → caches_of result.now role ≡ caches_at (on writes self.now) (positions self.now.history role) }
+        ensures writes { result.now.writes ≡ on writes self.now }
+        ensures told { (role : RoleValue) → told_of result.now.told role ≡ positions self.now.history role }
     {
         &self.caches
     }

@@ -7,15 +7,15 @@ ghost use Rattle.cmc_objects.specs.declared.role.Role.{Role as RoleValue};
 ghost use Rattle.cmc_objects.specs.Objects.{key_of};
 ghost use Rattle.cmc_objects.specs.Requests.{is_run_time};
 ghost use Rattle.cmc_rules.specs.declared.effect.Effect.TheVariants as effects;
+ghost use Rattle.cmc_rules.specs.Rights.{KeepsRights};
 ghost use Rattle.cmc_rules.specs.Runs.{IsRun};
+ghost use Rattle.cmc_rules.specs.Safety.{IsSafe};
 ghost use Rattle.cmc_rules.specs.UserSteps as following;
 ghost use Rattle.cmc_rules.specs.UserSteps.{IsReady, apply_call, call_of};
 ghost use Rattle.cmc_model.specs.Histories.{role_eq};
 ghost use Rattle.cmc_model.specs.Objects.{object_at};
 ghost use Rattle.cmc_rules.specs.Scripts as scripting;
 ghost use Rattle.cmc_rules.specs.Scripts.{scripted, step_at};
-ghost use Rattle.cmc_caches.specs.Told.{caches_at};
-ghost use Rattle.cmc_held.specs.Dues.{shown_positions};
 ghost use Rattle.cmc_held.specs.RoleStates.{role_state_of};
 ghost use Rattle.cmc_setup.specs.Forms.{is_step_form};
 ghost use Rattle.cmc_setup.specs.Setups.{IsSetup, IsTickForm, step_seconds};
@@ -30,13 +30,11 @@ ghost use Rattle.cmc_moves.specs.declared.moves.Stepped.TheVariants as answers;
 
 use crate::kernel::{Kernel, has_room};
 use crate::notes::log_write;
-use cmc_caches::RoleCaches;
-use cmc_held::{Log, RoleState, RoleStates, shown_positions, with_held, written_of};
+use cmc_held::{RoleState, RoleStates, shown_positions, with_held, written_of};
 use cmc_meta::Kind;
 use cmc_moves::{Lack, Stepped, answer, answer_script, approve, deny, renew, request_for};
 use cmc_objects::{Call, Entry, Object, Positions, Role, Step, Who};
 use cmc_rules::Effect;
-use cmc_seed::HashSeed;
 use cmc_setup::Scenario;
 use cmc_store::{Replied, Store};
 use std::alloc::{AllocError, Global};
@@ -237,21 +235,6 @@ fn all_at(at: u64) -> Positions
     }
 }
 
-/// What a role that starts is told of: what stood after the first `at` writes, of each kind that it looks at.
-fn list_at(
-    alloc: Global,
-    seed: HashSeed,
-    log: &Log,
-    role: Role,
-    at: u64,
-) -> Result<RoleCaches, AllocError>
-    requires { at ≤ length log.now.writes }
-    ensures { IfOk result (λ caches. caches ≡ caches_at log.now.writes (shown_positions role (each_at at))) }
-{
-    let told = shown_positions(role, all_at(at));
-    RoleCaches::list(alloc, seed, log.as_slice(), told)
-}
-
 fn started(standing: RoleState, at: u64) -> RoleState
     requires { standing.incarnation < 2 ^ 64 - 1 }
     ensures { result ≡ starting at standing }
@@ -323,9 +306,9 @@ impl Kernel {
         ensures err { OnErr result (self.new ≡ self.old) }
     {
         self.history.reserve(2)?;
-        self.log.reserve(1)?;
+        self.caches.reserve(1)?;
         let Replied { reply, key, object } = self.store.call(alloc, self.moment, &call)?;
-        log_write(&mut self.log, key, object);
+        log_write(&mut self.caches, key, object);
         self.made += 1;
         self.history.push(Entry::Script { step: self.made });
         self.history.push(Entry::Call {
@@ -378,8 +361,8 @@ impl Kernel {
         ensures err { OnErr result (self.new ≡ self.old) }
     {
         self.history.reserve(2)?;
-        let caches = list_at(alloc, self.caches.seed(), &self.log, role, at)?;
-        self.caches.set(role, caches);
+        let told = shown_positions(role, all_at(at));
+        self.caches.start(alloc, role, told)?;
         self.memories.start(role);
         note_start(&mut self.role_states, role, at);
         self.made += 1;
@@ -443,6 +426,8 @@ impl Kernel {
         ensures leaves { IfOk result (λ r. on spec.Leaves self.old moves.Script r self.new.history) }
         ensures scenario { self.new.scenario ≡ self.old.scenario }
         ensures run { on IsRun self.new }
+        ensures rights { on KeepsRights self.new }
+        ensures safe { on IsSafe self.new }
         ensures err { OnErr result (self.new ≡ self.old) }
     {
         self.is_run();

@@ -5,11 +5,13 @@ ghost use Rattle.cmc_meta.specs.ConditionLists.{condition_rank, tri_eq};
 ghost use Rattle.cmc_meta.specs.declared.conditions.ConditionKind.TheVariants.{Ready};
 ghost use Rattle.cmc_meta.specs.declared.conditions.Tri.TheVariants.{True};
 ghost use Rattle.cmc_model.specs.Summaries.{says_ready, is_certificate, is_secret, is_ready, is_waiting};
+ghost use Rattle.cmc_objects.specs.declared.role.Role.TheVariants.{Issuing};
+ghost use Rattle.cmc_caches.specs.Posted.{caches_of};
 ghost use Rattle.cmc_kernel.specs.Kept.{on};
 ghost use Rattle.cmc_waits.specs.Waits.{IsAllThatExists, is_stopped, waits_among, summary_among, summary_at};
 
 use crate::waits::{all_that_stands, is_stopped, wait_at};
-use cmc_caches::RoleCaches;
+use cmc_caches::Caches;
 use cmc_kernel::Kernel;
 use cmc_meta::{Condition, ConditionKind, Key, Tri};
 use cmc_objects::Object;
@@ -102,11 +104,11 @@ fn waiting_by(
     alloc: Global,
     kernel: &Kernel,
     stopped: bool,
-    all: &RoleCaches,
+    all: &Caches,
     objects: &Objects,
 ) -> Result<Waits, AllocError>
     requires stopped { stopped ≡ on is_stopped kernel.now }
-    requires all { on IsAllThatExists kernel.now all.now }
+    requires all { on IsAllThatExists kernel.now (caches_of all.now Issuing) }
     ensures { IfOk result (λ w. w ≡ on waits_among kernel.now objects.now.entries) }
 {
     let mut waiting = Waits::new(alloc);

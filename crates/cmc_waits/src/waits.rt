@@ -8,10 +8,11 @@ ghost use Rattle.cmc_rules.specs.Dates.{HasDatedFailure, IsDatedOption};
 ghost use Rattle.cmc_rules.specs.Issuance as issuing;
 ghost use Rattle.cmc_rules.specs.Trigger as triggering;
 ghost use Rattle.cmc_rules.specs.Views as viewing;
+ghost use Rattle.cmc_caches.specs.Posted.{caches_of};
 ghost use Rattle.cmc_kernel.specs.Kept.{on};
 ghost use Rattle.cmc_waits.specs.Waits as words;
 
-use cmc_caches::RoleCaches;
+use cmc_caches::Caches;
 use cmc_kernel::Kernel;
 use cmc_match::{is_next_key, next_request};
 use cmc_meta::{Condition, ConditionKind, Key, Kind, Tri};
@@ -165,28 +166,29 @@ pub(crate) fn is_stopped(kernel: &Kernel) -> bool
 
 // ---- a Certificate, by all that exists
 
-/// Lists all that exists, as a role sees it that was told of all writes. It goes over the whole log.
-pub(crate) fn all_that_stands(alloc: Global, kernel: &Kernel) -> Result<RoleCaches, AllocError>
-    ensures { IfOk result (λ all. on words.IsAllThatExists kernel.now all) }
+/// Tells a role of all writes, on caches of their own: what it sees is all that exists. It goes over all writes.
+pub(crate) fn all_that_stands(alloc: Global, kernel: &Kernel) -> Result<Caches, AllocError>
+    ensures { IfOk result (λ all. on words.IsAllThatExists kernel.now (caches_of all Issuing)) }
 {
-    let log = kernel.log();
-    let newest = log.accepted();
+    let mut all = kernel.caches().same_writes(alloc)?;
+    let newest = all.log().accepted();
     let at = Positions {
         certificates: newest,
         requests: newest,
         secrets: newest,
     };
-    RoleCaches::list(alloc, kernel.seed(), log.as_slice(), at)
+    all.start(alloc, Role::Issuing, at)?;
+    Ok(all)
 }
 
 /// What there is to see of the key, where `all` is all that exists.
 fn present_views(
     alloc: Global,
     kernel: &Kernel,
-    all: &RoleCaches,
+    all: &Caches,
     key: &Key,
 ) -> Result<Views, AllocError>
-    requires { on words.IsAllThatExists kernel.now all.now }
+    requires { on words.IsAllThatExists kernel.now (caches_of all.now Issuing) }
     ensures same { IfOk result (λ seen. seen ≡ on viewing.present_views kernel.now Issuing key.now) }
     ensures dated { IfOk result (λ seen. HasDatedFailure seen) }
 {
@@ -197,10 +199,10 @@ fn present_views(
 fn wait_seen(
     alloc: Global,
     kernel: &Kernel,
-    all: &RoleCaches,
+    all: &Caches,
     key: &Key,
 ) -> Result<Option<WaitName>, AllocError>
-    requires { on words.IsAllThatExists kernel.now all.now }
+    requires { on words.IsAllThatExists kernel.now (caches_of all.now Issuing) }
     ensures { IfOk result (λ wait. wait ≡ words.wait_in (on histories.moment kernel.now) (on viewing.present_views kernel.now Issuing key.now)) }
 {
     let seen = present_views(alloc, kernel, all, key)?;
@@ -214,11 +216,11 @@ pub(crate) fn wait_at(
     alloc: Global,
     kernel: &Kernel,
     stopped: bool,
-    all: &RoleCaches,
+    all: &Caches,
     key: &Key,
 ) -> Result<Option<WaitName>, AllocError>
     requires stopped { stopped ≡ on words.is_stopped kernel.now }
-    requires all { on words.IsAllThatExists kernel.now all.now }
+    requires all { on words.IsAllThatExists kernel.now (caches_of all.now Issuing) }
     ensures { IfOk result (λ wait. wait ≡ on words.wait_at kernel.now key.now) }
 {
     if stopped {

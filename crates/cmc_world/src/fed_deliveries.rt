@@ -46,11 +46,7 @@ fn affected(
     ensures { IfOk result (λ keys. on AreAffected kernel.now role kind to keys.items) }
 {
     kernel.is_run();
-    let log = kernel.log();
-    let from = at_kind(kernel.told(role), kind);
-    kernel
-        .caches()
-        .affected(alloc, role, log.as_slice(), kind, from, upto)
+    kernel.caches().affected(alloc, role, kind, upto)
 }
 
 /// Makes the delivery. Each key of which the role may see something new then is ready.

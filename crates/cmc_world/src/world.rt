@@ -14,6 +14,9 @@ ghost use Rattle.cmc_rules.specs.Passes.{IsWorking};
 ghost use Rattle.cmc_rules.specs.Rights.{KeepsRights};
 ghost use Rattle.cmc_rules.specs.Runs.{IsRun, IsFinished};
 ghost use Rattle.cmc_rules.specs.Safety.{IsSafe};
+ghost use Rattle.cmc_safety.specs.Completion.{CompletesIssuing};
+ghost use Rattle.cmc_safety.specs.Invariants.{KeepsInvariants};
+ghost use Rattle.cmc_safety.specs.MayAct.{IsNeverInvalid};
 ghost use Rattle.cmc_moves.specs.Answers.{Answers, Leaves};
 ghost use Rattle.cmc_moves.specs.declared.moves.Move.TheVariants as moves;
 ghost use Rattle.cmc_waking.specs.WakeUps.{IsSearched, LosesNoWakeUp};
@@ -154,6 +157,16 @@ impl World {
         ensures run { on IsRun self.now }
         ensures rights { on KeepsRights self.now }
         ensures safe { on IsSafe self.now }
+    {
+        self.kernel.is_run();
+    }
+
+    /// A law: no rule refused a call of a pass; a pass of issuing that has a plan and is left undisturbed carries it out
+    /// whole; and each object that exists has its form, a revision that was counted, and moments that have passed.
+    pub fn is_orderly(&self)
+        ensures valid { IsNeverInvalid self.now.history }
+        ensures complete { on CompletesIssuing self.now }
+        ensures order { on KeepsInvariants self.now }
     {
         self.kernel.is_run();
     }

@@ -5,12 +5,13 @@ use Rattle.cmc_meta.specs.declared.key.Key.{Key}
 use Rattle.cmc_model.specs.Objects.{object_at}
 use Rattle.cmc_rules.specs.Views.{owned_in}
 use Rattle.cmc_caches.proofs.Owners.{requests_by_keys}
+use Rattle.cmc_caches.specs.Board.{shown_by}
 use Rattle.cmc_caches.proofs.viewing.requests_of.Goals as goal
 
 pub returns : goal.returns
 returns c =
     IfOk-weaker c.owned_under.result _ _
     (λ found is.
-    is ∙ ap (λ (ks : List Key). filter_map (λ k. option_and_then (owned_in c.args.certificate.now) (object_at c.args.objects.now k)) ks) c.as_slice.ensures
-    ∙ requests_by_keys c.args.objects.now c.args.certificate.now c.in_ok-keys.keys c.in_ok-keys.ensures)
+    is ∙ ap (λ (ks : List Key). filter_map (λ k. option_and_then (owned_in c.args.certificate.now) (object_at (shown_by c.args.objects.now) k)) ks) c.as_slice.ensures
+    ∙ requests_by_keys (shown_by c.args.objects.now) c.args.certificate.now c.in_ok-keys.keys c.in_ok-keys.ensures)
     c.owned_under.ensures

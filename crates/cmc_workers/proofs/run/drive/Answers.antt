@@ -1,4 +1,4 @@
-use Rattle.std.proofs.Common.{◌∙◌, sym}
+use Rattle.std.proofs.Common.{◌∙◌, arith, sym}
 use Rattle.cmc_workers.proofs.Ends.{driven_drives, finished_on}
 use Rattle.cmc_workers.proofs.run.drive.Goals as goal
 
@@ -9,3 +9,7 @@ returns-then-same-clause-ends g c =
 
 pub returns-clause-ends : goal.returns-clause-ends
 returns-clause-ends g c = driven_drives c.args.scenario c.drive_plain-2.result c.drive_plain-2.ensures
+
+-- without workers that call is not reached
+pub returns-then-same-clause-alone : goal.returns-then-same-clause-alone
+returns-then-same-clause-alone g c = λ none. absurd (omega (arith, none, c.if-workers-eq0.false))

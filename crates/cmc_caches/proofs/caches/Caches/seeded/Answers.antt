@@ -1,6 +1,8 @@
-use Rattle.cmc_caches.proofs.EachRole.{told_nothing}
+use Rattle.cmc_caches.proofs.ToldRows.{all_untold, untold_within}
 use Rattle.cmc_caches.proofs.caches.Caches.seeded.Goals as goal
 
-pub returns : goal.returns
-returns c =
-    told_nothing _ _ _ _ _ _ _ _ _ c.in_ok-rows.ensures.items c.new.ensures c.new-2.ensures c.new-3.ensures c.new-4.ensures c.new-5.ensures c.new-6.ensures c.new-7.ensures c.new-8.ensures
+pub invariant_of-result : goal.invariant_of-result
+invariant_of-result c = (c.in_ok-rows.ensures.count, untold_within c.new-board.result.known c.in_ok-rows.rows.items c.in_ok-rows.ensures.none)
+
+pub returns-clause-told : goal.returns-clause-told
+returns-clause-told c r = all_untold c.in_ok-rows.rows.items r c.in_ok-rows.ensures.none

@@ -1,4 +1,4 @@
-use Rattle.std.proofs.Common.{◌≡◌, ◌∙◌, ◌<◌, List, ap, sym, subst, length, false, arith}
+use Rattle.std.proofs.Common.{◌≡◌, ◌∙◌, ◌<◌, ap, sym, subst, length, false, arith}
 use Rattle.std.specs.Prelude.{if◌then◌else◌}
 use Rattle.cmc_model.specs.Histories.{role_eq}
 use Rattle.cmc_rules.specs.Legality.{IsDelivery}
@@ -7,39 +7,27 @@ use Rattle.cmc_held.specs.declared.role_states.RoleState.{RoleState}
 use Rattle.cmc_held.specs.RoleStates.{role_state_of}
 use Rattle.cmc_kernel.specs.Kept.{Seen, setting_of, on}
 use Rattle.cmc_kernel.specs.Changes.{telling}
-use Rattle.cmc_model.specs.declared.write.Write.{Write}
-use Rattle.cmc_model.specs.Writes.{contents, oldest, of_kind, writes}
+use Rattle.cmc_model.specs.Writes.{writes}
 use Rattle.cmc_model.proofs.Writes.{writes_count}
-use Rattle.cmc_caches.specs.Told.{caches_of, with_cached}
+use Rattle.cmc_caches.specs.Posted.{told_of}
 use Rattle.cmc_rules.proofs.Positions.{write_at-low}
-use Rattle.cmc_kernel.proofs.Caching.{has_told, log_length, told_from}
+use Rattle.cmc_kernel.proofs.RolePositions.{log_length}
 use Rattle.cmc_kernel.proofs.Events.{kept_delivered}
 use Rattle.cmc_kernel.proofs.kernel.Kernel.deliver.Goals as goal
 
-pub tell-requires-clause-above : goal.tell-requires-clause-above
-tell-requires-clause-above c =
+pub tell-requires : goal.tell-requires
+tell-requires c =
     let may = subst (λ (v : Seen). on IsDelivery v c.args.role c.args.kind c.args.to) (sym c.self.view_is) c.requires.may in
-    let at = told_from _ _ _ c.args.role c.args.kind c.get-standing.result c.told_of-from.result c.self.invariant c.get-standing.ensures c.told_of-from.ensures in
-    omega (arith, at, may.further)
-
-pub tell-requires-clause-within : goal.tell-requires-clause-within
-tell-requires-clause-within c =
-    let may = subst (λ (v : Seen). on IsDelivery v c.args.role c.args.kind c.args.to) (sym c.self.view_is) c.requires.may in
-    let count = log_length _ _ _ c.as_slice.result.now c.self.invariant.held c.as_slice.ensures in
+    let count = log_length _ _ _ c.self.invariant.held in
     let low = write_at-low c.args.kind c.args.to (writes (setting_of c.self.inside.scenario) c.self.inside.history.entries) may.written in
     omega (arith, count, low, writes_count (setting_of c.self.inside.scenario) c.self.inside.history.entries)
 
-pub tell-requires-clause-holds : goal.tell-requires-clause-holds
-tell-requires-clause-holds c =
-    let may = subst (λ (v : Seen). on IsDelivery v c.args.role c.args.kind c.args.to) (sym c.self.view_is) c.requires.may in
-    has_told _ _ _ c.args.role c.args.kind c.get-standing.result c.told_of-from.result c.as_slice.result.now c.self.invariant may.informed c.get-standing.ensures c.told_of-from.ensures c.as_slice.ensures
-
 pub invariant_of-self-2 : goal.invariant_of-self-2
 invariant_of-self-2 c =
-    rw (c.push.ensures.entries, c.in_ok-reserve.ensures.same)
-    (kept_delivered _ _ _ c.args.role c.args.kind c.args.to (λ r. role_state_of c.set.new.self r) (λ r. caches_of c.tell.new.self r) c.self.invariant
+    rw (c.push.ensures.entries, c.in_ok-reserve.ensures.same, c.in_ok-tell.ensures.writes)
+    (kept_delivered _ _ _ c.args.role c.args.kind c.args.to (λ r. role_state_of c.set.new.self r) (λ r. told_of c.tell.new.self.told r) c.self.invariant
     (subst (λ (v : Seen). on IsDelivery v c.args.role c.args.kind c.args.to) (sym c.self.view_is) c.requires.may)
     (subst (λ (v : Seen). on held v c.args.role c.args.kind ≡ false) (sym c.self.view_is) c.requires.free)
     (subst (λ (v : Seen). length v.history < v.scenario.events) (sym c.self.view_is) c.requires.room)
     (λ r. c.set.ensures r ∙ ap (λ (t : RoleState). if role_eq c.args.role r then t else role_state_of c.self.inside.role_states r) (c.with_told.ensures ∙ ap (telling c.args.kind c.args.to) c.get-standing.ensures))
-    (λ r. c.in_ok-tell.ensures.ok r ∙ ap (λ (ws : List Write). if role_eq c.args.role r then with_cached c.args.kind (contents (of_kind c.args.kind (oldest c.args.to ws))) (caches_of c.self.inside.caches c.args.role) else caches_of c.self.inside.caches r) c.as_slice.ensures))
+    c.in_ok-tell.ensures.ok)

@@ -9,7 +9,6 @@ use Rattle.cmc_moves.specs.Answers.{AnswersBegin}
 use Rattle.cmc_moves.specs.Quiet.{IsQuiet}
 use Rattle.cmc_moves.specs.Tables.{begin_answer}
 use Rattle.cmc_kernel.proofs.Judging.{judged_begin}
-use Rattle.cmc_kernel.proofs.Known.{known_where_stands}
 use Rattle.cmc_kernel.proofs.kernel.Kernel.judge_seen.Goals as goal
 
 pub returns : goal.returns
@@ -21,6 +20,3 @@ returns c =
     c.get-past.ensures (to_z-of_z w64 c.self.inside.moment (search rules)) c.is_on-working.ensures.some c.own_write-own.ensures c.is_again-same.ensures c.is_of_work-of_work.ensures
     (subst (λ (v : Seen). IsTrue c.in_ok-quiet.quiet ↔ on IsQuiet v c.args.role c.args.key.now) (sym c.self.view_is) c.in_ok-quiet.ensures)
     c.len-entries.ensures c.events.ensures.value c.has_room-room.ensures (c.answer_begin.ensures ∙ ap (λ (b : Bool). begin_answer c.get-standing.result.running c.is_on-working.result c.own_write-own.result c.is_again-same.result b c.len-entries.result c.has_room-room.result) c.is_queued-queued.ensures))
-
-pub is_of_work-of_work-requires : goal.is_of_work-of_work-requires
-is_of_work-of_work-requires c = λ on. known_where_stands _ _ _ c.args.key.now c.self.invariant (sym c.stands.ensures ∙ on)

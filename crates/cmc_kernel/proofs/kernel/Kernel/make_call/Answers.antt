@@ -24,7 +24,8 @@ invariant_of-self-2 c =
     let reply = c.in_ok-reply.field-0.reply in
     let may = subst (λ (v : Seen). on spec.AnswersScript v answers.Done) (sym c.self.view_is) c.requires.may in
     let due = subst (λ (v : Seen). on spec.next_effect v ≡ Some (effects.Call c.args.call)) (sym c.self.view_is) c.requires.effect in
-    call_kept (setting_of u) h c.push-2.new.self.entries _ made c.args.call reply (to_z w64 (of_z w64 c.self.inside.moment)) c.call.new.self c.reserve-2.new.self.writes c.log_write.new.log.writes c.in_ok-reply.field-0.key c.in_ok-reply.field-0.object
-    c.self.invariant may due refl (to_z-of_z w64 c.self.inside.moment (search rules)) c.reserve-2.ensures.same
-    c.in_ok-reply.ensures.reply c.in_ok-reply.ensures.after c.in_ok-reply.ensures.key c.in_ok-reply.ensures.object c.log_write.ensures
-    (c.push-2.ensures.entries ∙ ap (λ (l : List Entry). entries.Call who.User c.args.call reply ∷ l) (c.push.ensures.entries ∙ ap (λ (l : List Entry). entries.Script made ∷ l) c.reserve.ensures.same))
+    rw (c.log_write.ensures.told, c.reserve-2.ensures.told)
+    (call_kept (setting_of u) h c.push-2.new.self.entries _ made c.args.call reply (to_z w64 (of_z w64 c.self.inside.moment)) c.call.new.self c.reserve-2.new.self.writes c.log_write.new.caches.writes c.in_ok-reply.field-0.key c.in_ok-reply.field-0.object
+    c.self.invariant may due refl (to_z-of_z w64 c.self.inside.moment (search rules)) c.reserve-2.ensures.writes
+    c.in_ok-reply.ensures.reply c.in_ok-reply.ensures.after c.in_ok-reply.ensures.key c.in_ok-reply.ensures.object c.log_write.ensures.writes
+    (c.push-2.ensures.entries ∙ ap (λ (l : List Entry). entries.Call who.User c.args.call reply ∷ l) (c.push.ensures.entries ∙ ap (λ (l : List Entry). entries.Script made ∷ l) c.reserve.ensures.same)))

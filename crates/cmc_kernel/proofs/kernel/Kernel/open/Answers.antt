@@ -24,13 +24,13 @@ invariant_of-self-in_err-reserve-2 c = rw (c.in_ok-reserve.ensures.same, c.in_er
 
 pub invariant_of-self-in_err-ready : goal.invariant_of-self-in_err-ready
 invariant_of-self-in_err-ready c =
-    kept_spare _ _ c.reserve.new.self.entries _ c.self.inside.store.faults c.self.inside.store.state c.self.inside.log.writes c.reserve-2.new.self.origins (λ n. pass_at c.self.inside.passes n) (λ r k. past_at c.ready.new.self r k)
-    c.self.invariant c.in_ok-reserve.ensures.same refl refl refl c.in_ok-reserve-2.ensures.same (λ n. refl) (λ r k. c.in_err-ready.ensures.same r k)
+    kept_spare _ _ c.reserve.new.self.entries _ c.self.inside.store.faults c.self.inside.store.state c.reserve-2.new.self.origins (λ n. pass_at c.self.inside.passes n) (λ r k. past_at c.ready.new.self r k)
+    c.self.invariant c.in_ok-reserve.ensures.same refl refl c.in_ok-reserve-2.ensures.same (λ n. refl) (λ r k. c.in_err-ready.ensures.same r k)
 
 pub invariant_of-self-in_err-open : goal.invariant_of-self-in_err-open
 invariant_of-self-in_err-open c =
-    kept_spare _ _ c.reserve.new.self.entries _ c.self.inside.store.faults c.self.inside.store.state c.self.inside.log.writes c.reserve-2.new.self.origins (λ n. pass_at c.open.new.self n) (λ r k. past_at c.ready.new.self r k)
-    c.self.invariant c.in_ok-reserve.ensures.same refl refl refl c.in_ok-reserve-2.ensures.same (λ n. ap (λ x. pass_at x n) c.in_err-open.ensures.err) (λ r k. c.in_ok-ready.ensures.same r k)
+    kept_spare _ _ c.reserve.new.self.entries _ c.self.inside.store.faults c.self.inside.store.state c.reserve-2.new.self.origins (λ n. pass_at c.open.new.self n) (λ r k. past_at c.ready.new.self r k)
+    c.self.invariant c.in_ok-reserve.ensures.same refl refl c.in_ok-reserve-2.ensures.same (λ n. ap (λ x. pass_at x n) c.in_err-open.ensures.err) (λ r k. c.in_ok-ready.ensures.same r k)
 
 pub invariant_of-self-2 : goal.invariant_of-self-2
 invariant_of-self-2 c =
