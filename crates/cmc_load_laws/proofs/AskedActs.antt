@@ -28,10 +28,11 @@ use Rattle.cmc_rules.specs.Views.{views}
 use Rattle.cmc_rules.proofs.Carrying.{over_begin, over_call, over_end, over_given, over_stop}
 use Rattle.cmc_safety.proofs.Course.{over_own_entry, same_number, with_equation}
 
--- the act asks it, with the rules of the scenario
+-- the act asks it, with the rules and the material of the scenario
 pub record IsOfAct (s : Setting) (role : Role) (seen : Views) (since : ℤ) (order : Order) : Type 0 where
   pub its_desk : Desk
   pub rules : its_desk.rules ≡ s.rules
+  pub material : its_desk.material ≡ s.material
   pub asks : act role seen since its_desk ≡ Asks order
 
 abbrev pub HoldsOfQuestion : Stage → (Order → Type 0) → Type 0
@@ -102,7 +103,7 @@ over_question s h n pass order may was =
     (λ here q holds.
     let its : open_pass s h pass ≡ Some q = ap (open_pass s h) (sym (same_number n pass here)) ∙ holds.0 in
     let by : AsksBy q.stage (act_of s h q) order = subst (λ (x : Option OpenPass). MayAsk s h x order) its may in
-    record { its_desk = desk s h q.role q.seen; rules = refl; asks = asks_by q.stage (act_of s h q) order by })
+    record { its_desk = desk s h q.role q.seen; rules = refl; material = refl; asks = asks_by q.stage (act_of s h q) order by })
     (λ there q holds. holds.1) (with_equation (AskedByAct s) (open_pass s h n) was)
 
 over_value : (s : Setting) (h : List Entry) (n pass : ℕ) (value : Value) → IfSome (open_pass s h n) (AskedByAct s) → IfSome (given n pass value (open_pass s h n)) (AskedByAct s)

@@ -52,7 +52,7 @@ both_name a b (o ∷ []) few one other = sym (eqb-true o.uid a (first (o.uid == 
   first false is = absurd (cc is)
 both_name a b (o ∷ p ∷ os) few one other = absurd (omega (arith, few))
 
-none_named : (uid : ℕ) (owners : List OwnerRef) → owners ≡ [] → names uid owners ≡ true → ⊥
+pub none_named : (uid : ℕ) (owners : List OwnerRef) → owners ≡ [] → names uid owners ≡ true → ⊥
 none_named uid owners none is = let off : names uid owners ≡ false = ap (names uid) none in cc (off, is)
 
 few : (o : Object) → HasFewOwners o → length (meta_of o).owners ≤ 1
@@ -101,7 +101,7 @@ module _ (m : Objects) (parted : IsParted m) where
   one_by j k key c d at_j at_k (inr (inr owned)) (inr (inl target)) = absurd (target_and_owned k key d c (object_at m key) at_k target refl owned)
   one_by j k key c d at_j at_k (inr (inr one)) (inr (inr other)) = both_own j k key c d (object_at m key) at_j at_k refl one other
 
-ways : (own : Key) (c : Certificate) (key : Key) (o : Option Object) → is_of own c key o ≡ true → (own ≡ key) ⊎ ((key_of_target c ≡ key) ⊎ (is_owned_by c.meta.uid o ≡ true))
+pub ways : (own : Key) (c : Certificate) (key : Key) (o : Option Object) → is_of own c key o ≡ true → (own ≡ key) ⊎ ((key_of_target c ≡ key) ⊎ (is_owned_by c.meta.uid o ≡ true))
 ways own c key o is = elim (or_cases (is_at (key_cmp own) key) (is_at (key_cmp (key_of_target c)) key || is_owned_by c.meta.uid o) is) [
   | inl here ↦ inl (one_key own key here)
   | inr more ↦ inr (elim (or_cases (is_at (key_cmp (key_of_target c)) key) (is_owned_by c.meta.uid o) more) [ inl target ↦ inl (one_key (key_of_target c) key target) | inr owned ↦ inr owned ])

@@ -37,7 +37,7 @@ use Rattle.cmc_rules.proofs.Sighted.{AreKnown, stands_as_seen}
 use Rattle.cmc_rules.proofs.Sights.{seen_certificate, seen_secret}
 use Rattle.cmc_rules.proofs.Versions.{stands_is_version, version_keyed}
 use Rattle.cmc_load_laws.proofs.TargetWrites.{IsTargetWrite}
-use Rattle.cmc_load_laws.specs.Loads.{Applies, IsFreeCertificate, IsLoad}
+use Rattle.cmc_load_laws.specs.Loads.{Applies, IsFreeCertificate, HasFreeCertificates}
 use Rattle.cmc_load_laws.proofs.MadeCalls.{IsMakingCall, IsOwnedMeta}
 use Rattle.cmc_load_laws.proofs.PassCalls.{IsAccepted}
 use Rattle.cmc_load_laws.proofs.RolesKeep.{IsLater}
@@ -186,7 +186,7 @@ of_status s ws (Cert c) (Cert d) is = record { applied = is.applied; applies = i
 of_status s ws (Request r) (Request q) is = is
 of_status s ws old other is = is
 
-pub of_user : (s : Setting) (h : List Entry) (v : ℕ) (now : ℤ) (call : Call) → IsLoad s → IsLegal s h → EachIsOf s (writes s h) → IsScriptCall s call → IsFounded (objects s h) call
+pub of_user : (s : Setting) (h : List Entry) (v : ℕ) (now : ℤ) (call : Call) → HasFreeCertificates s → IsLegal s h → EachIsOf s (writes s h) → IsScriptCall s call → IsFounded (objects s h) call
     → IfSome (stored v now (objects s h) call) (IsOf s (writes s h))
 unfolding IsFounded
 of_user s h v now (Create object false) load legal each script on = of_applied s (writes s h) v now object script (load.certificates object script)

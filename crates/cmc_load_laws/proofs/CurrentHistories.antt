@@ -19,7 +19,7 @@ use Rattle.cmc_safety.specs.Formed.{IsFormed}
 use Rattle.cmc_safety.proofs.Course.{AreSound}
 use Rattle.cmc_safety.proofs.InProgress.{IsPlayed, played_below}
 use Rattle.cmc_safety.proofs.MayAct.{may_act_pass}
-use Rattle.cmc_load_laws.specs.Loads.{IsLoad}
+use Rattle.cmc_load_laws.specs.Loads.{HasFreeCertificates}
 use Rattle.cmc_load_laws.specs.LoadRuns.{CurrentWritesLower, SeesAll, IsLowering, IsStanding, LowersMeasure}
 use Rattle.cmc_load_laws.proofs.BelongingVersions.{EachIsOf, IsCertificateIn}
 use Rattle.cmc_load_laws.proofs.LoadHistories.{IsForOneIn, for_one_in, played}
@@ -28,12 +28,12 @@ use Rattle.cmc_load_laws.proofs.PassRights.{IsAcceptedBy, accepted_by}
 
 -- what is known of a history of a load
 pub record IsOfLoad (s : Setting) (h : List Entry) : Type 0 where
-  pub load : IsLoad s
+  pub load : HasFreeCertificates s
   pub played : IsPlayed s h
   pub each : EachIsOf s (writes s h)
   pub standing : (c : Certificate) → IsCertificateIn (writes s h) c → IsStanding (objects s h) c
 
-of_load : AreSound → (s : Setting) (h : List Entry) → IsLoad s → IsPlayed s h → IsOfLoad s h
+of_load : AreSound → (s : Setting) (h : List Entry) → HasFreeCertificates s → IsPlayed s h → IsOfLoad s h
 of_load sound s h load o =
     let each = each_is_of sound s h load o in
     record { load = load; played = o; each = each; standing = λ c known. is_standing sound s h load o each c known }
@@ -45,13 +45,13 @@ RoleLowers role =
     → IsLowering role a.caller.pass.seen a.caller.pass.stage call
     → IsForOneIn (objects s h) (key_of_call (settled call reply)) (stored (accepted s h + 1) (moment s h) (objects s h) (settled call reply)) → LowersMeasure s h (Called (Pass n) call reply)
 
-run_below : (s : Setting) (h : List Entry) (n : ℕ) (call : Call) (reply : Reply) → IsPlayed s (Called (Pass n) call reply ∷ h) → length h ≤ s.events → IsRun s h
+pub run_below : (s : Setting) (h : List Entry) (n : ℕ) (call : Call) (reply : Reply) → IsPlayed s (Called (Pass n) call reply ∷ h) → length h ≤ s.events → IsRun s h
 unfolding Follows
 run_below s h n call reply o short =
     let below = played_below s (Called (Pass n) call reply) h o in
     record { legal = below.legal; caused = below.caused; follows = below.follows; short = short; settled = o.follows.0 }
 
-pub lowers_at : AreSound → ((role : Role) → RoleLowers role) → (s : Setting) (h : List Entry) (n : ℕ) (call : Call) (reply : Reply) → IsFormed s → length h ≤ s.events → IsLoad s → IsPlayed s (Called (Pass n) call reply ∷ h)
+pub lowers_at : AreSound → ((role : Role) → RoleLowers role) → (s : Setting) (h : List Entry) (n : ℕ) (call : Call) (reply : Reply) → IsFormed s → length h ≤ s.events → HasFreeCertificates s → IsPlayed s (Called (Pass n) call reply ∷ h)
     → is_accepted reply ≡ true → (p : OpenPass) → open_pass s h n ≡ Some p → SeesAll s h p → IsLowering p.role p.seen p.stage call → LowersMeasure s h (Called (Pass n) call reply)
 lowers_at sound each s h n call reply formed short load o ok p opened current lowers =
     let a = accepted_by sound s h n call reply o ok in
@@ -64,7 +64,7 @@ lowers_at sound each s h n call reply formed short load o ok p opened current lo
 pub shorter : (e : Entry) (h : List Entry) (most : ℕ) → length (e ∷ h) ≤ most → length h ≤ most
 shorter e h most short = omega (arith, short)
 
-each_lower : AreSound → ((role : Role) → RoleLowers role) → (s : Setting) (h : List Entry) → IsFormed s → length h ≤ s.events → IsLoad s → IsPlayed s h → CurrentWritesLower s h
+each_lower : AreSound → ((role : Role) → RoleLowers role) → (s : Setting) (h : List Entry) → IsFormed s → length h ≤ s.events → HasFreeCertificates s → IsPlayed s h → CurrentWritesLower s h
 each_lower sound each s [] formed short load o = tt
 each_lower sound each s (Called (Pass n) call reply ∷ h) formed short load o =
     let below = shorter (Called (Pass n) call reply) h s.events short in
@@ -72,5 +72,5 @@ each_lower sound each s (Called (Pass n) call reply ∷ h) formed short load o =
 each_lower sound each s (Called User call reply ∷ h) formed short load o = each_lower sound each s h formed (shorter (Called User call reply) h s.events short) load (played_below s (Called User call reply) h o)
 each_lower sound each s (other ∷ h) formed short load o = each_lower sound each s h formed (shorter other h s.events short) load (played_below s other h o)
 
-pub runs_lower : AreSound → ((role : Role) → RoleLowers role) → (s : Setting) (h : List Entry) → IsFormed s → IsLoad s → IsRun s h → CurrentWritesLower s h
+pub runs_lower : AreSound → ((role : Role) → RoleLowers role) → (s : Setting) (h : List Entry) → IsFormed s → HasFreeCertificates s → IsRun s h → CurrentWritesLower s h
 runs_lower sound each s h formed load run = each_lower sound each s h formed run.short load (played s h run)

@@ -46,7 +46,7 @@ use Rattle.cmc_rules.specs.Acts.{act, call_after}
 use Rattle.cmc_rules.specs.Causes.{IsNextCall}
 use Rattle.cmc_rules.specs.Desks.{desk}
 use Rattle.cmc_rules.specs.KeyManager as keys
-use Rattle.cmc_rules.specs.KeyManager.{key_after, key_manager, key_secret, make_call}
+use Rattle.cmc_rules.specs.KeyManager.{key_after, key_secret, make_call}
 use Rattle.cmc_rules.specs.Legality.{IsLegal}
 use Rattle.cmc_rules.specs.NextKeys.{has_fitting_key, is_fitting}
 use Rattle.cmc_rules.specs.Owners.{owned_meta, owner_of}
@@ -121,7 +121,7 @@ given_call fit seen since d (orders.Csr order) value call asks right question is
 given_call fit seen since d (orders.Sign order) value call asks right question is = absurd (cc question.0)
 given_call fit seen since d (orders.Judge order) value call asks right question is = absurd (cc question.0)
 
-key_call_at : MadeKeysFit → (s : Setting) (h : List Entry) (n : ℕ) (seen : Views) (since : ℤ) (d : Desk) (stage : Stage) (call : Call) → HoldsOfQuestion stage (IsOfAct s KeyManager seen since) → HasCome h n KeyManager seen since stage
+pub key_call_at : MadeKeysFit → (s : Setting) (h : List Entry) (n : ℕ) (seen : Views) (since : ℤ) (d : Desk) (stage : Stage) (call : Call) → HoldsOfQuestion stage (IsOfAct s KeyManager seen since) → HasCome h n KeyManager seen since stage
     → IsNextCall stage (act KeyManager seen since d) (call_after KeyManager seen since) call → IsCallAt stage KeyManager seen since call → IsKeyManaging seen (λ c. IsKeyCall seen c call)
 key_call_at fit s h n seen since d Fresh call asked come next at = first_call seen since d call next
 key_call_at fit s h n seen since d (Given order value) call asked come next at = given_call fit seen since asked.its_desk order value call asked.asks come.right come.question next
@@ -177,6 +177,8 @@ pub record IsNewKey (s : Setting) (h : List Entry) (call : Call) (reply : Reply)
   pub labelled : has_next_label made.meta ≡ true
   pub owned : is_owned c made.meta ≡ true
   pub holds : key_in made ≡ Some file
+  pub namespace : made.meta.namespace ≡ c.meta.namespace
+  pub owners : made.meta.owners ≡ owner_of c ∷ []
 
 owns_made : (c : Certificate) → (bytes_eq c.meta.namespace c.meta.namespace && names c.meta.uid (owner_of c ∷ [])) ≡ true
 owns_made c =
@@ -185,7 +187,7 @@ owns_made c =
 
 new_key_by : (s : Setting) (h : List Entry) (reply : Reply) (c : Certificate) (file : List ℕ) → is_accepted reply ≡ true → IsFounded (objects s h) (settled (make_call c file) reply) → IsNewKey s h (make_call c file) reply c file
 unfolding make_call settled IsFounded key_secret owned_meta created named
-new_key_by s h (Ok version name) c file ok on = record { made = _; kind = refl; none = on.0; is = refl; labelled = refl; owned = owns_made c; holds = refl }
+new_key_by s h (Ok version name) c file ok on = record { made = _; kind = refl; none = on.0; is = refl; labelled = refl; owned = owns_made c; holds = refl; namespace = refl; owners = refl }
 new_key_by s h (Unchanged version) c file ok on = absurd (cc ok)
 new_key_by s h (Found object) c file ok on = absurd (cc ok)
 new_key_by s h (Conflict at have) c file ok on = absurd (cc ok)
@@ -194,7 +196,7 @@ new_key_by s h (AlreadyExists have) c file ok on = absurd (cc ok)
 new_key_by s h (Invalid rule) c file ok on = absurd (cc ok)
 new_key_by s h (Unavailable number) c file ok on = absurd (cc ok)
 
-is_new_key : (s : Setting) (h : List Entry) (call : Call) (reply : Reply) (c : Certificate) (file : List ℕ) → is_accepted reply ≡ true → IsFounded (objects s h) (settled call reply) → call ≡ make_call c file → IsNewKey s h call reply c file
+pub is_new_key : (s : Setting) (h : List Entry) (call : Call) (reply : Reply) (c : Certificate) (file : List ℕ) → is_accepted reply ≡ true → IsFounded (objects s h) (settled call reply) → call ≡ make_call c file → IsNewKey s h call reply c file
 is_new_key s h call reply c file ok on is =
     subst (λ (x : Call). IsNewKey s h x reply c file) (sym is) (new_key_by s h reply c file ok (subst (λ (x : Call). IsFounded (objects s h) (settled x reply)) is on))
 

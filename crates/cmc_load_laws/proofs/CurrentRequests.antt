@@ -51,7 +51,7 @@ use Rattle.cmc_rules.specs.NextRequests.{HasNextRevision, is_next, is_wanted, ne
 use Rattle.cmc_rules.specs.Owners.{owned_meta, owner_of}
 use Rattle.cmc_rules.specs.Passes.{open_pass}
 use Rattle.cmc_rules.specs.RequestManager as requests
-use Rattle.cmc_rules.specs.RequestManager.{is_stale, make_request, new_request, request_after, request_marks, request_manager, stale_request}
+use Rattle.cmc_rules.specs.RequestManager.{is_stale, make_request, new_request, request_after, request_marks}
 use Rattle.cmc_rules.specs.SeenObjects.{IsAmong}
 use Rattle.cmc_rules.specs.Views.{is_owned, views_in, views_of}
 use Rattle.cmc_rules.proofs.Sighted.{AreKnown, stands_as_seen}
@@ -198,15 +198,17 @@ is_dropped_request s h seen call reply r legal known among on is =
     subst (λ (x : Call). IsDroppedRequest s h x reply r) (sym is) (dropped_by s h seen reply r legal known among (subst (λ (x : Call). IsFounded (objects s h) (settled x reply)) is on))
 
 -- a new request of the Certificate
-record IsNewRequest (s : Setting) (h : List Entry) (call : Call) (reply : Reply) (c : Certificate) (k : SecretObject) (octets : List ℕ) : Type 0 where
-  made : CertificateRequest
-  kind : (key_of_call (settled call reply)).kind ≡ kinds.CertificateRequest
-  none : object_at (objects s h) (key_of_call (settled call reply)) ≡ None
-  is : stored (accepted s h + 1) (moment s h) (objects s h) (settled call reply) ≡ Some (Request made)
-  owned : is_owned c made.meta ≡ true
-  marks : made.meta.annotations ≡ request_marks c k
-  spec : made.spec ≡ (new_request c k octets).spec
-  status : made.status ≡ no_request_status
+pub record IsNewRequest (s : Setting) (h : List Entry) (call : Call) (reply : Reply) (c : Certificate) (k : SecretObject) (octets : List ℕ) : Type 0 where
+  pub made : CertificateRequest
+  pub kind : (key_of_call (settled call reply)).kind ≡ kinds.CertificateRequest
+  pub none : object_at (objects s h) (key_of_call (settled call reply)) ≡ None
+  pub is : stored (accepted s h + 1) (moment s h) (objects s h) (settled call reply) ≡ Some (Request made)
+  pub owned : is_owned c made.meta ≡ true
+  pub marks : made.meta.annotations ≡ request_marks c k
+  pub spec : made.spec ≡ (new_request c k octets).spec
+  pub status : made.status ≡ no_request_status
+  pub namespace : made.meta.namespace ≡ c.meta.namespace
+  pub owners : made.meta.owners ≡ owner_of c ∷ []
 
 owns_made : (c : Certificate) → (bytes_eq c.meta.namespace c.meta.namespace && names c.meta.uid (owner_of c ∷ [])) ≡ true
 owns_made c =
@@ -216,7 +218,7 @@ owns_made c =
 new_request_by : (s : Setting) (h : List Entry) (reply : Reply) (c : Certificate) (k : SecretObject) (octets : List ℕ) → is_accepted reply ≡ true → IsFounded (objects s h) (settled (make_request c k octets) reply)
     → IsNewRequest s h (make_request c k octets) reply c k octets
 unfolding make_request settled IsFounded new_request owned_meta created named
-new_request_by s h (Ok version name) c k octets ok on = record { made = _; kind = refl; none = on.0; is = refl; owned = owns_made c; marks = refl; spec = refl; status = refl }
+new_request_by s h (Ok version name) c k octets ok on = record { made = _; kind = refl; none = on.0; is = refl; owned = owns_made c; marks = refl; spec = refl; status = refl; namespace = refl; owners = refl }
 new_request_by s h (Unchanged version) c k octets ok on = absurd (cc ok)
 new_request_by s h (Found object) c k octets ok on = absurd (cc ok)
 new_request_by s h (Conflict at have) c k octets ok on = absurd (cc ok)
@@ -225,7 +227,7 @@ new_request_by s h (AlreadyExists have) c k octets ok on = absurd (cc ok)
 new_request_by s h (Invalid rule) c k octets ok on = absurd (cc ok)
 new_request_by s h (Unavailable number) c k octets ok on = absurd (cc ok)
 
-is_new_request : (s : Setting) (h : List Entry) (call : Call) (reply : Reply) (c : Certificate) (k : SecretObject) (octets : List ℕ) → is_accepted reply ≡ true → IsFounded (objects s h) (settled call reply) → call ≡ make_request c k octets
+pub is_new_request : (s : Setting) (h : List Entry) (call : Call) (reply : Reply) (c : Certificate) (k : SecretObject) (octets : List ℕ) → is_accepted reply ≡ true → IsFounded (objects s h) (settled call reply) → call ≡ make_request c k octets
     → IsNewRequest s h call reply c k octets
 is_new_request s h call reply c k octets ok on is =
     subst (λ (x : Call). IsNewRequest s h x reply c k octets) (sym is) (new_request_by s h reply c k octets ok (subst (λ (x : Call). IsFounded (objects s h) (settled x reply)) is on))
@@ -233,7 +235,7 @@ is_new_request s h call reply c k octets ok on is =
 wanted_by : (c : Certificate) (file : List ℕ) (r made : CertificateRequest) → made.spec ≡ r.spec → is_wanted c file r ≡ true → is_wanted c file made ≡ true
 wanted_by c file r made spec wanted = rw (matches_by c.spec r made spec, has_by file r made spec) wanted
 
-low_revision : (c : Certificate) (o : Option Certificate) → o ≡ Some c → HasNextRevision o → next_revision c < 2 ^ 64
+pub low_revision : (c : Certificate) (o : Option Certificate) → o ≡ Some c → HasNextRevision o → next_revision c < 2 ^ 64
 low_revision c o sees has = let low : unwrap_or c.status.revision 0 < 2 ^ 63 = subst HasNextRevision sees has in omega (arith, low)
 
 -- ---- the measure
@@ -292,7 +294,7 @@ module _ (s : Setting) (h : List Entry) (n : ℕ) (call : Call) (reply : Reply) 
 
   pub request_lowers_by : HasNextRevision a.caller.pass.seen.certificate → HasFewRequests a.caller.pass.seen → IsItsCall a.caller.pass.seen c call → LowersMeasure s h (Called (Pass n) call reply)
   request_lowers_by revision few (inl (inl w)) = stale w
-  request_lowers_by revision few (inl (inr many)) = absurd (omega (arith, few c sees, many))
+  request_lowers_by revision few (inl (inr w)) = absurd (omega (arith, few c sees, w.many))
   request_lowers_by revision few (inr w) = requesting revision w
 
 pub request_manager_lowers : OwnRequestsAreWanted → (s : Setting) (h : List Entry) (n : ℕ) (call : Call) (reply : Reply) (a : IsAcceptedBy s h n call reply) → IsOfLoad s h → HasNextRevision a.caller.pass.seen.certificate

@@ -102,15 +102,15 @@ planning : (seen : Views) (now : ℤ) (plan : IssuePlan) (o : Option Certificate
 planning seen now plan None is = absurd (cc is)
 planning seen now plan (Some c) is = (c, refl)
 
-sees_one : (seen : Views) (now : ℤ) (plan : IssuePlan) → issuing seen now ≡ Issue plan → (c : Certificate) × (seen.certificate ≡ Some c)
+pub sees_one : (seen : Views) (now : ℤ) (plan : IssuePlan) → issuing seen now ≡ Issue plan → (c : Certificate) × (seen.certificate ≡ Some c)
 unfolding issuing
 sees_one seen now plan is = planning seen now plan seen.certificate is
 
 -- what is granted and certified is planned
-record IsPlanned (now : ℤ) (c : Certificate) (file : List ℕ) (target : Option SecretObject) (r : CertificateRequest) (plan : IssuePlan) : Type 0 where
-  granted : IsGranted c file r
-  free : is_kept_for_keys target ≡ false
-  is : plan ≡ issue_plan now c file r target
+pub record IsPlanned (now : ℤ) (c : Certificate) (file : List ℕ) (target : Option SecretObject) (r : CertificateRequest) (plan : IssuePlan) : Type 0 where
+  pub granted : IsGranted c file r
+  pub free : is_kept_for_keys target ≡ false
+  pub is : plan ≡ issue_plan now c file r target
 
 no_issue_if : (b : Bool) (x : Act) (plan : IssuePlan) → (x ≡ Issue plan → ⊥) → (if b then x else Nothing) ≡ Issue plan → ⊥
 no_issue_if true x plan other is = other is
@@ -145,7 +145,7 @@ by_wanted false true now c file target r plan a b is =
     let three = by_granted (is_certified file r.status.certificate) (is_kept_for_keys target) now c file target r plan refl refl is in
     record { granted = record { not_refused = a; granted = b; certified = three.0 }; free = three.1; is = three.2 }
 
-is_planned : (now : ℤ) (c : Certificate) (file : List ℕ) (target : Option SecretObject) (r : CertificateRequest) (plan : IssuePlan) → with_wanted now c file target r ≡ Issue plan → IsPlanned now c file target r plan
+pub is_planned : (now : ℤ) (c : Certificate) (file : List ℕ) (target : Option SecretObject) (r : CertificateRequest) (plan : IssuePlan) → with_wanted now c file target r ≡ Issue plan → IsPlanned now c file target r plan
 is_planned now c file target r plan is = by_wanted (is_refused r) (is_granted r) now c file target r plan refl refl is
 
 -- ---- what is stored
@@ -226,7 +226,7 @@ module _ (s : Setting) (now : ℤ) (m : Objects) (c : Certificate) (k : SecretOb
   later_one : object_at (put_at m (key_of_target c) (Some (Secret k))) (key_of (Cert c)) ≡ Some (Cert c)
   later_one = elsewhere_at m (key_of_target c) (Some (Secret k)) (key_of (Cert c)) (no_own c) ∙ present
 
-  after_is : seen_of (put_at m (key_of_target c) (Some (Secret k))) (key_of (Cert c)) ≡ with_secret k (with_certificate c (seen_of m (key_of (Cert c))))
+  pub after_is : seen_of (put_at m (key_of_target c) (Some (Secret k))) (key_of (Cert c)) ≡ with_secret k (with_certificate c (seen_of m (key_of (Cert c))))
   after_is =
       let own : Key = key_of (Cert c) in
       let key : Key = key_of_target c in

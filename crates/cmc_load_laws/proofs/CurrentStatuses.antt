@@ -43,7 +43,7 @@ pub sees_part : (s : Setting) (h : List Entry) (p : OpenPass) (role : Role) → 
 sees_part s h p role works is current = current.sees ∙ ap (λ (r : Role). present_views s h r p.key) is ∙ role_sees role (objects s h) p.key works
 
 -- the act on what is seen is the one on what there is to see
-on_present : (does : Views → ℤ → Act) (s : Setting) (h : List Entry) (p : OpenPass) (part : Views) (call : Call) → p.seen ≡ part → p.since ≡ moment s h → IsFirstCall (does p.seen p.since) call → IsFirstCall (does part (moment s h)) call
+pub on_present : (does : Views → ℤ → Act) (s : Setting) (h : List Entry) (p : OpenPass) (part : Views) (call : Call) → p.seen ≡ part → p.since ≡ moment s h → IsFirstCall (does p.seen p.since) call → IsFirstCall (does part (moment s h)) call
 on_present does s h p part call sees now first =
     subst (λ (t : ℤ). IsFirstCall (does part t) call) now (subst (λ (v : Views). IsFirstCall (does v p.since) call) sees first)
 
@@ -65,7 +65,7 @@ module _ (s : Setting) (h : List Entry) (n : ℕ) (call : Call) (reply : Reply) 
 
 -- ---- the trigger
 
-first_trigger : (s : Setting) (h : List Entry) (n : ℕ) (call : Call) (reply : Reply) (a : IsAcceptedBy s h n call reply) → a.caller.pass.role ≡ Trigger → IsFirstCall (trigger a.caller.pass.seen a.caller.pass.since) call
+pub first_trigger : (s : Setting) (h : List Entry) (n : ℕ) (call : Call) (reply : Reply) (a : IsAcceptedBy s h n call reply) → a.caller.pass.role ≡ Trigger → IsFirstCall (trigger a.caller.pass.seen a.caller.pass.since) call
 unfolding act call_after
 first_trigger s h n call reply a is =
     only_first a.caller.pass.stage Trigger a.caller.pass.seen a.caller.pass.since (trigger a.caller.pass.seen a.caller.pass.since) (call_after Trigger a.caller.pass.seen a.caller.pass.since) call (λ e. absurd (cc e)) (λ order value. refl)

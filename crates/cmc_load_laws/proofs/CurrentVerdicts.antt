@@ -108,7 +108,7 @@ none_of_request rules (Some r) call first = by (is_approved r || is_denied r) (i
   by false true is = is
   by false false is = is
 
-none_first : (seen : Views) (since : ℤ) (d : Desk) (call : Call) → IsFirstCall (act Approver seen since d) call → ⊥
+pub none_first : (seen : Views) (since : ℤ) (d : Desk) (call : Call) → IsFirstCall (act Approver seen since d) call → ⊥
 unfolding act approver
 none_first seen since d call first = none_of_request d.rules seen.request call first
 

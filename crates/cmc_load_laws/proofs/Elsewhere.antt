@@ -94,7 +94,7 @@ pub seen_kept : (m : Objects) (key : Key) (new : Option Object) (other : Key) �
 seen_kept m key new other off =
     seen_is (put_at m key new) other ∙ ap (parts_of (put_at m key new)) (ap (option_and_then certificate_in) (elsewhere_at m key new other off.apart)) ∙ parts_kept m key new other (certificate_at m other) refl off ∙ sym (seen_is m other)
 
-request_seen : (role : Role) (m n : Objects) (key : Key) → works_on_requests role ≡ true → object_at m key ≡ object_at n key → views_in role (all_of m) key ≡ views_in role (all_of n) key
+pub request_seen : (role : Role) (m n : Objects) (key : Key) → works_on_requests role ≡ true → object_at m key ≡ object_at n key → views_in role (all_of m) key ≡ views_in role (all_of n) key
 unfolding views_in views_of
 request_seen role m n key works same = rw works (ap (λ (o : Option Object). views_of role (all_of m) None (option_and_then request_in o)) same)
 

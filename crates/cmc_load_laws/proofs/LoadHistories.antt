@@ -28,7 +28,7 @@ use Rattle.cmc_safety.proofs.Carried.{newest}
 use Rattle.cmc_safety.proofs.Course.{AreSound}
 use Rattle.cmc_safety.proofs.InProgress.{IsPlayed, played_below}
 use Rattle.cmc_load_laws.specs.Belonging.{IsParted, IsWriteFor}
-use Rattle.cmc_load_laws.specs.Loads.{IsLoad}
+use Rattle.cmc_load_laws.specs.Loads.{HasFreeCertificates}
 use Rattle.cmc_load_laws.specs.LoadRuns.{FallsWithOne, IsForOneCertificate, KeepsCertificates, WriteForOneCertificate}
 use Rattle.cmc_load_laws.specs.Frame.{all_of}
 use Rattle.cmc_load_laws.specs.Totals.{HasCertificate}
@@ -50,7 +50,7 @@ pub after_accepted : (s : Setting) (h : List Entry) (who : Who) (call : Call) (r
 after_accepted s h who call reply ok =
     ap (λ (b : Bool). if b then put_at (objects s h) (key_of_call (settled call reply)) (stored (accepted s h + 1) (moment s h) (objects s h) (settled call reply)) else objects s h) ok
 
-known_after : (b : Bool) (w : Write) (ws : List Write) (c : Certificate) → IsCertificateIn ws c → IsCertificateIn (if b then w ∷ ws else ws) c
+pub known_after : (b : Bool) (w : Write) (ws : List Write) (c : Certificate) → IsCertificateIn ws c → IsCertificateIn (if b then w ∷ ws else ws) c
 known_after true w ws c known = inr known
 known_after false w ws c known = known
 
@@ -62,7 +62,7 @@ standing_of : (s : Setting) (h : List Entry) (key : Key) (o : Option Object) →
 standing_of s h key None each is = tt
 standing_of s h key (Some o) each is = at_key s h key o each is
 
-for_one_by : AreSound → (s : Setting) (h : List Entry) (n : ℕ) (call : Call) (reply : Reply) → IsLoad s → IsPlayed s (Called (Pass n) call reply ∷ h) → is_accepted reply ≡ true
+for_one_by : AreSound → (s : Setting) (h : List Entry) (n : ℕ) (call : Call) (reply : Reply) → HasFreeCertificates s → IsPlayed s (Called (Pass n) call reply ∷ h) → is_accepted reply ≡ true
     → IsForOne (key_of_call (settled call reply)) (objects s h) (object_at (objects s h) (key_of_call (settled call reply)))
     (stored (accepted s h + 1) (moment s h) (objects s h) (settled call reply)) (objects s (Called (Pass n) call reply ∷ h))
 for_one_by sound s h n call reply load o ok =
@@ -80,7 +80,7 @@ for_one_by sound s h n call reply load o ok =
     (standing_of s h key (object_at m key) each refl) (of_pass s h n call reply each a) (λ x is. sym (version_keyed s h key x under.legal (stands_is_version s h key x is)))
     (λ x is. sym (version_keyed s (e ∷ h) key x o.legal (stands_is_version s (e ∷ h) key x (there ∙ is)))) (λ none gone. some_stored (accepted s h + 1) (moment s h) m (settled call reply) a.founded none gone) a.write.rights
 
-parted_at : AreSound → (s : Setting) (h : List Entry) → IsLoad s → IsPlayed s h → IsParted (objects s h)
+pub parted_at : AreSound → (s : Setting) (h : List Entry) → HasFreeCertificates s → IsPlayed s h → IsParted (objects s h)
 parted_at sound s h load o = is_parted s h load o.legal (each_is_of sound s h load o)
 
 none_here : (s : Setting) (h : List Entry) (n : ℕ) (call : Call) (reply : Reply) → IsAcceptedBy s h n call reply → object_at (objects s h) (key_of_call (settled call reply)) ≡ None
@@ -98,7 +98,7 @@ pub record IsForOneIn (m : Objects) (key : Key) (new : Option Object) : Type 0 w
   pub parted : IsParted m
   pub later : IsParted (put_at m key new)
 
-pub for_one_in : AreSound → (s : Setting) (h : List Entry) (n : ℕ) (call : Call) (reply : Reply) → IsLoad s → IsPlayed s (Called (Pass n) call reply ∷ h) → is_accepted reply ≡ true
+pub for_one_in : AreSound → (s : Setting) (h : List Entry) (n : ℕ) (call : Call) (reply : Reply) → HasFreeCertificates s → IsPlayed s (Called (Pass n) call reply ∷ h) → is_accepted reply ≡ true
     → IsForOneIn (objects s h) (key_of_call (settled call reply)) (stored (accepted s h + 1) (moment s h) (objects s h) (settled call reply))
 for_one_in sound s h n call reply load o ok =
     let e : Entry = Called (Pass n) call reply in
@@ -147,7 +147,7 @@ for_one_then m key new one = record {
   falls = falls_by m key new one;
 }
 
-for_certificate : AreSound → (s : Setting) (h : List Entry) (n : ℕ) (call : Call) (reply : Reply) → IsLoad s → IsPlayed s (Called (Pass n) call reply ∷ h) → is_accepted reply ≡ true
+for_certificate : AreSound → (s : Setting) (h : List Entry) (n : ℕ) (call : Call) (reply : Reply) → HasFreeCertificates s → IsPlayed s (Called (Pass n) call reply ∷ h) → is_accepted reply ≡ true
     → IsForOneCertificate s h (Called (Pass n) call reply) call reply
 for_certificate sound s h n call reply load o ok =
     let key : Key = key_of_call (settled call reply) in
@@ -157,7 +157,7 @@ for_certificate sound s h n call reply load o ok =
 
 -- ---- histories
 
-pub write_for_one : AreSound → (s : Setting) (h : List Entry) → IsLoad s → IsPlayed s h → WriteForOneCertificate s h
+pub write_for_one : AreSound → (s : Setting) (h : List Entry) → HasFreeCertificates s → IsPlayed s h → WriteForOneCertificate s h
 write_for_one sound s [] load o = tt
 write_for_one sound s (Called (Pass n) call reply ∷ h) load o =
     (λ ok. for_certificate sound s h n call reply load o ok, write_for_one sound s h load (played_below s (Called (Pass n) call reply) h o))
@@ -167,13 +167,13 @@ write_for_one sound s (other ∷ h) load o = write_for_one sound s h load (playe
 pub played : (s : Setting) (h : List Entry) → IsRun s h → IsPlayed s h
 played s h run = record { legal = run.legal; caused = run.caused; follows = run.follows }
 
-pub runs_write_for_one : AreSound → (s : Setting) (h : List Entry) → IsLoad s → IsRun s h → WriteForOneCertificate s h
+pub runs_write_for_one : AreSound → (s : Setting) (h : List Entry) → HasFreeCertificates s → IsRun s h → WriteForOneCertificate s h
 runs_write_for_one sound s h load run = write_for_one sound s h load (played s h run)
 
-pub runs_are_parted : AreSound → (s : Setting) (h : List Entry) → IsLoad s → IsRun s h → IsParted (objects s h)
+pub runs_are_parted : AreSound → (s : Setting) (h : List Entry) → HasFreeCertificates s → IsRun s h → IsParted (objects s h)
 runs_are_parted sound s h load run = parted_at sound s h load (played s h run)
 
-pub runs_keep_certificates : AreSound → (s : Setting) (h : List Entry) → IsLoad s → IsRun s h → KeepsCertificates s h
+pub runs_keep_certificates : AreSound → (s : Setting) (h : List Entry) → HasFreeCertificates s → IsRun s h → KeepsCertificates s h
 runs_keep_certificates sound s h load run key c has =
     let o = played s h run in
     let own : IsCertificateIn (writes s h) c = subst (λ (k : Key). IsVersion k (Cert c) (writes s h)) (sym (version_keyed s h key (Cert c) run.legal has)) has in

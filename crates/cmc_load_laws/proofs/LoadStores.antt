@@ -17,7 +17,7 @@ use Rattle.cmc_rules.proofs.OwnSecrets.{own_secrets}
 use Rattle.cmc_rules.proofs.Versions.{stands_is_version, version_keyed}
 use Rattle.cmc_load_laws.specs.Belonging.{HasFewOwners, IsParted}
 use Rattle.cmc_load_laws.specs.Frame.{key_of_target}
-use Rattle.cmc_load_laws.specs.Loads.{IsLoad}
+use Rattle.cmc_load_laws.specs.Loads.{HasFreeCertificates}
 use Rattle.cmc_load_laws.proofs.BelongingVersions.{EachIsOf, IsAsApplied, IsMadeFor, IsOf, OfSecret}
 use Rattle.cmc_load_laws.proofs.LegalStores.{legal_parted}
 
@@ -38,18 +38,18 @@ few_owners s ws (Secret k) is = secret_owners ws k.meta is
 -- ---- a Secret that a Certificate names is no next key
 
 -- no name that is generated for one Certificate is the name of a Secret that one names
-no_generated : (s : Setting) (h : List Entry) (c : Certificate) (m : ObjectMeta) → IsLoad s → EachIsOf s (writes s h) → IsAsApplied s c → IsMadeFor (writes s h) m → m.name ≡ c.spec.secret_name → ⊥
+no_generated : (s : Setting) (h : List Entry) (c : Certificate) (m : ObjectMeta) → HasFreeCertificates s → EachIsOf s (writes s h) → IsAsApplied s c → IsMadeFor (writes s h) m → m.name ≡ c.spec.secret_name → ⊥
 no_generated s h c m load each applied made same =
     let owner : IsAsApplied s made.certificate = each (key_of (Cert made.certificate)) (Cert made.certificate) made.known in
     let name : owner.applied.meta.name ≡ made.certificate.meta.name = ap (λ (k : Key). k.name) owner.key in
     load.apart applied.applied owner.applied made.number applied.applies owner.applies
     (sym applied.secret ∙ sym same ∙ made.name ∙ sym (ap (λ (n : List ℕ). generated_name n made.number) name))
 
-target_owners : (s : Setting) (h : List Entry) (c : Certificate) (m : ObjectMeta) → IsLoad s → EachIsOf s (writes s h) → IsAsApplied s c → OfSecret (writes s h) m → m.name ≡ c.spec.secret_name → m.owners ≡ []
+target_owners : (s : Setting) (h : List Entry) (c : Certificate) (m : ObjectMeta) → HasFreeCertificates s → EachIsOf s (writes s h) → IsAsApplied s c → OfSecret (writes s h) m → m.name ≡ c.spec.secret_name → m.owners ≡ []
 target_owners s h c m load each applied (inl is) same = absurd (no_generated s h c m load each applied is.1 same)
 target_owners s h c m load each applied (inr is) same = is.1.owners
 
-target_by : (s : Setting) (h : List Entry) (c : Certificate) (o : Object) → IsLoad s → EachIsOf s (writes s h) → IsAsApplied s c → IsOf s (writes s h) o → key_of o ≡ key_of_target c → (meta_of o).owners ≡ []
+target_by : (s : Setting) (h : List Entry) (c : Certificate) (o : Object) → HasFreeCertificates s → EachIsOf s (writes s h) → IsAsApplied s c → IsOf s (writes s h) o → key_of o ≡ key_of_target c → (meta_of o).owners ≡ []
 target_by s h c (Cert d) load each applied is same = absurd (cc (ap (λ (k : Key). k.kind) same))
 target_by s h c (Request r) load each applied is same = absurd (cc (ap (λ (k : Key). k.kind) same))
 target_by s h c (Secret k) load each applied is same = target_owners s h c k.meta load each applied is (ap (λ (k : Key). k.name) same)
@@ -59,7 +59,7 @@ target_by s h c (Secret k) load each applied is same = target_owners s h c k.met
 pub at_key : (s : Setting) (h : List Entry) (q : Key) (o : Object) → EachIsOf s (writes s h) → object_at (objects s h) q ≡ Some o → IsOf s (writes s h) o
 at_key s h q o each there = each q o (stands_is_version s h q o there)
 
-pub is_parted : (s : Setting) (h : List Entry) → IsLoad s → IsLegal s h → EachIsOf s (writes s h) → IsParted (objects s h)
+pub is_parted : (s : Setting) (h : List Entry) → HasFreeCertificates s → IsLegal s h → EachIsOf s (writes s h) → IsParted (objects s h)
 is_parted s h load legal each =
     legal_parted s h legal (own_secrets s h legal) (λ q o there. few_owners s (writes s h) o (at_key s h q o each there))
     (λ q c o there target. target_by s h c o load each (at_key s h q (Cert c) each there) (at_key s h (key_of_target c) o each target)

@@ -25,7 +25,7 @@ use Rattle.cmc_rules.proofs.Versions.{stands_is_version, version_keyed}
 use Rattle.cmc_safety.proofs.Carried.{newest}
 use Rattle.cmc_safety.proofs.Course.{AreSound}
 use Rattle.cmc_safety.proofs.InProgress.{IsPlayed}
-use Rattle.cmc_load_laws.specs.Loads.{IsLoad}
+use Rattle.cmc_load_laws.specs.Loads.{HasFreeCertificates}
 use Rattle.cmc_load_laws.specs.LoadRuns.{IsStanding}
 use Rattle.cmc_load_laws.proofs.BelongingVersions.{EachIsOf, IsAsApplied, IsCertificateIn, IsOf, certificate_kept, more_of, of_making, of_target, of_user, request_kept}
 use Rattle.cmc_load_laws.proofs.PassCalls.{IsAccepted, making_key, making_request, writing_target}
@@ -88,7 +88,7 @@ module _ (s : Setting) (h : List Entry) (m : ℕ) (call : Call) (reply : Reply) 
 
 -- ---- histories
 
-pub each_is_of : AreSound → (s : Setting) (h : List Entry) → IsLoad s → IsPlayed s h → EachIsOf s (writes s h)
+pub each_is_of : AreSound → (s : Setting) (h : List Entry) → HasFreeCertificates s → IsPlayed s h → EachIsOf s (writes s h)
 each_is_of sound s h load o =
     carried_on (EachIsOf s) s
     (record {
@@ -102,7 +102,7 @@ each_is_of sound s h load o =
 
 -- ---- the Certificate that exists
 
-pub is_standing : AreSound → (s : Setting) (h : List Entry) → IsLoad s → IsPlayed s h → EachIsOf s (writes s h) → (c : Certificate) → IsCertificateIn (writes s h) c → IsStanding (objects s h) c
+pub is_standing : AreSound → (s : Setting) (h : List Entry) → HasFreeCertificates s → IsPlayed s h → EachIsOf s (writes s h) → (c : Certificate) → IsCertificateIn (writes s h) c → IsStanding (objects s h) c
 is_standing sound s h load o each c known =
     let there = have_stayed sound s h load o (key_of (Cert c)) c known in
     let d : Certificate = there.0 in

@@ -29,7 +29,7 @@ use Rattle.cmc_safety.specs.Formed.{IsFormed}
 use Rattle.cmc_safety.proofs.Course.{AreSound}
 use Rattle.cmc_safety.proofs.InProgress.{played_below}
 use Rattle.cmc_safety.proofs.NextCalls.{IsCallAt}
-use Rattle.cmc_load_laws.specs.Loads.{IsLoad}
+use Rattle.cmc_load_laws.specs.Loads.{HasFreeCertificates}
 use Rattle.cmc_load_laws.specs.LoadRuns.{IsLowering, LowersMeasure, WritesIssued}
 use Rattle.cmc_load_laws.proofs.CurrentHistories.{RoleLowers, lowers_at, shorter}
 use Rattle.cmc_load_laws.proofs.LoadHistories.{played}
@@ -70,7 +70,7 @@ since_moment s (other ∷ h) n p legal opened alone = absurd (cc alone.0)
 
 -- ---- before its first write
 
-before_by : (stage : Stage) (role : Role) (seen : Views) (since : ℤ) (does : Act) (after : Order → Value → Option Call) (call : Call) → role ≢ Issuing → IsNextCall stage does after call → IsCallAt stage role seen since call → is_before_writes stage ≡ true
+pub before_by : (stage : Stage) (role : Role) (seen : Views) (since : ℤ) (does : Act) (after : Order → Value → Option Call) (call : Call) → role ≢ Issuing → IsNextCall stage does after call → IsCallAt stage role seen since call → is_before_writes stage ≡ true
 before_by Fresh role seen since does after call other next at = refl
 before_by (Asked order) role seen since does after call other next at = refl
 before_by (Given order value) role seen since does after call other next at = refl
@@ -120,7 +120,7 @@ before_writes s h n call reply p a opened lowers =
     subst (λ (x : OpenPass). is_before_writes x.stage ≡ true) same
     (before_role q.role q.seen q.stage q.since (act_of s h q) (after_of q) call lowers_q a.next a.caller.at)
 
-pub plain_lowers : AreSound → ((role : Role) → RoleLowers role) → RunAlone → SeeAll → (s : Setting) (h : List Entry) (n : ℕ) (call : Call) (reply : Reply) (p : OpenPass) → IsFormed s → IsLoad s → is_calm s.script ≡ true → s.events < 2 ^ 64 → IsPlain s h
+pub plain_lowers : AreSound → ((role : Role) → RoleLowers role) → RunAlone → SeeAll → (s : Setting) (h : List Entry) (n : ℕ) (call : Call) (reply : Reply) (p : OpenPass) → IsFormed s → HasFreeCertificates s → is_calm s.script ≡ true → s.events < 2 ^ 64 → IsPlain s h
     → IsRun s (Called (Pass n) call reply ∷ h) → is_accepted reply ≡ true → open_pass s h n ≡ Some p → IsLowering p.role p.seen p.stage call → LowersMeasure s h (Called (Pass n) call reply)
 plain_lowers sound each alone sees s h n call reply p formed load calm small plain run ok opened lowers =
     let o = played s (Called (Pass n) call reply ∷ h) run in

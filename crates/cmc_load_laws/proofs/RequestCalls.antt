@@ -21,7 +21,7 @@ use Rattle.cmc_rules.specs.Causes.{IsFirstCall}
 use Rattle.cmc_rules.specs.NextKeys.{named_key}
 use Rattle.cmc_rules.specs.NextRequests.{next_requests}
 use Rattle.cmc_rules.specs.RequestManager as requests
-use Rattle.cmc_rules.specs.RequestManager.{ask_signature, is_stale, request_manager, stale_request}
+use Rattle.cmc_rules.specs.RequestManager.{ask_signature, request_manager, stale_request}
 use Rattle.cmc_rules.specs.RevisionManager.{delete_call, delete_of}
 use Rattle.cmc_rules.specs.Trigger.{is_issuing}
 use Rattle.cmc_rules.proofs.Lines.{by_test}
@@ -43,8 +43,13 @@ pub record IsStaleDrop (seen : Views) (c : Certificate) (call : Call) : Type 0 w
   pub is : call ≡ Delete (key_of (Request request)) (Some request.meta.version)
 
 -- where there are two or more, one goes
+pub record IsLastDrop (seen : Views) (c : Certificate) (call : Call) : Type 0 where
+  pub many : 2 ≤ length (next_requests c seen.requests)
+  pub request : CertificateRequest
+  pub is : call ≡ Delete (key_of (Request request)) (Some request.meta.version)
+
 abbrev pub IsRequestCall : Views → Certificate → Call → Type 0
-IsRequestCall seen c call = IsStaleDrop seen c call ⊎ (2 ≤ length (next_requests c seen.requests))
+IsRequestCall seen c call = IsStaleDrop seen c call ⊎ IsLastDrop seen c call
 
 -- there is none, and a signature is asked for
 pub record IsAskingOne (seen : Views) (c : Certificate) : Type 0 where
@@ -77,7 +82,7 @@ of_ask seen c has (Some key) none = record { has = has; none = none }
 of_last : (seen : Views) (c : Certificate) (r : Option CertificateRequest) → 2 ≤ length (next_requests c seen.requests) → OfRequests seen c (delete_of r)
 unfolding delete_call
 of_last seen c None many = tt
-of_last seen c (Some r) many = inr many
+of_last seen c (Some r) many = inr (record { many = many; request = r; is = refl })
 
 of_count : (seen : Views) (c : Certificate) (has : HasNamedKey seen c) → OfRequests seen c (requests.by_count c has.file (next_requests c seen.requests))
 of_count seen c has =

@@ -2,7 +2,7 @@
 use Rattle.std.proofs.Common.{◌≡◌, Bool, true, false, cond, List, [], ◌∷◌, ◌++◌, Option, Some, None, refl, sym, ap, ◌∙◌, Ordering, Less, Equal, Greater}
 use Rattle.std.specs.Cmp.{eq_by_cmp_equiv}
 use Rattle.std.specs.FinMap as maps
-use Rattle.std.specs.FinMap.{entries-insert, find, get-entries, get-insert, get-remove, get_tied, put, same_map}
+use Rattle.std.specs.FinMap.{entries-insert, find, get-empty, get-entries, get-insert, get-remove, get_tied, put, same_map}
 use Rattle.std.specs.FinMap.Entries.{by_order}
 use Rattle.std.specs.List.{cons_option}
 use Rattle.std.specs.Ordering.{eq_by_cmp, is_eq}
@@ -11,7 +11,7 @@ use Rattle.cmc_meta.specs.declared.key.Key.{Key}
 use Rattle.cmc_meta.specs.Keys.{key_cmp}
 use Rattle.cmc_meta.proofs.KeyOrder.{key_cmp-total, key_cmp-IsAntisymmetric}
 use Rattle.cmc_objects.specs.declared.object.Object.{Object}
-use Rattle.cmc_model.specs.Objects.{Objects, object_at}
+use Rattle.cmc_model.specs.Objects.{Objects, no_objects, object_at}
 use Rattle.cmc_model.specs.Replies.{put_at}
 use Rattle.cmc_model.proofs.Versions.{object_at-put}
 use Rattle.cmc_load_laws.specs.Frame.{IsOneChange}
@@ -108,3 +108,12 @@ one_change f m k o =
       was = ap (λ (n : Objects). picked f (maps.entries n)) (sym (put_again m k (object_at m k) refl)) ∙ at.full (object_at m k);
       is = at.full o;
     }
+
+-- of no objects none is picked
+no_entries : (es : List (Key × Object)) → ((q : Key) → find key_cmp q es ≡ None) → es ≡ []
+no_entries [] none = refl
+no_entries (e ∷ es) none =
+    absurd (let some : Some e.1 ≡ None = sym (ap (λ (b : Bool). cond b (Some e.1) (find key_cmp e.0 es)) ((eq_by_cmp_equiv key_cmp-total).refl e.0)) ∙ none e.0 in cc some)
+
+pub none_picked : {X : Type 0} (f : Object → Option X) → picked f (maps.entries no_objects) ≡ []
+none_picked f = ap (picked f) (no_entries (maps.entries no_objects) (λ q. sym (get-entries no_objects q) ∙ get-empty key_cmp q))

@@ -29,7 +29,7 @@ use Rattle.cmc_rules.proofs.Versions.{stands_is_version, version_keyed}
 use Rattle.cmc_safety.proofs.Carried.{newest}
 use Rattle.cmc_safety.proofs.Course.{AreSound}
 use Rattle.cmc_safety.proofs.InProgress.{IsPlayed}
-use Rattle.cmc_load_laws.specs.Loads.{IsLoad}
+use Rattle.cmc_load_laws.specs.Loads.{HasFreeCertificates}
 use Rattle.cmc_load_laws.proofs.Belonging.{itself}
 use Rattle.cmc_load_laws.proofs.PassRights.{accepted_by}
 use Rattle.cmc_load_laws.proofs.PlayedWrites.{carried_on}
@@ -50,7 +50,7 @@ HaveStayed ws = (key : Key) (c : Certificate) → IsVersion key (Cert c) ws → 
 
 -- ---- over a write
 
-put_is : (w : Write) (ws : List Write) (key : Key) (b : Bool) → is_at (key_cmp key) w.key ≡ b → object_at (contents (w ∷ ws)) key ≡ cond b w.object (object_at (contents ws) key)
+pub put_is : (w : Write) (ws : List Write) (key : Key) (b : Bool) → is_at (key_cmp key) w.key ≡ b → object_at (contents (w ∷ ws)) key ≡ cond b w.object (object_at (contents ws) key)
 unfolding contents
 put_is w ws key b is = object_at-put (contents ws) w.key w.object key ∙ ap (λ (x : Bool). cond x w.object (object_at (contents ws) key)) is
 
@@ -83,7 +83,7 @@ of_restated v c (Secret k) = (_, refl, refl)
 from_there : (f : Object → Object) (c : Certificate) (o : Option Object) → o ≡ Some (Cert c) → IsThere c (Some (f (Cert c))) → IsThere c (from_old f o)
 from_there f c o is there = (there.0, ap (from_old f) is ∙ there.1, there.2)
 
-user_stays : (s : Setting) (h : List Entry) (v : ℕ) (now : ℤ) (call : Call) → IsLoad s → IsLegal s h → IsScriptCall s call → IsFounded (objects s h) call
+user_stays : (s : Setting) (h : List Entry) (v : ℕ) (now : ℤ) (call : Call) → HasFreeCertificates s → IsLegal s h → IsScriptCall s call → IsFounded (objects s h) call
     → Stays (object_at (objects s h) (key_of_call call)) (stored v now (objects s h) call)
 unfolding IsFounded
 user_stays s h v now (Create object generate) load legal script on c is = absurd (let none : None ≡ Some (Cert c) = sym on.0 ∙ is in cc none)
@@ -115,7 +115,7 @@ role_stays role old new may c is =
 over_contents : (s : Setting) (h : List Entry) (key : Key) (new : Option Object) → Stays (object_at (objects s h) key) new → Stays (object_at (contents (writes s h)) key) new
 over_contents s h key new stays = subst (λ (m : Objects). Stays (object_at m key) new) (sym (writes_leave s h)) stays
 
-pub have_stayed : AreSound → (s : Setting) (h : List Entry) → IsLoad s → IsPlayed s h → HaveStayed (writes s h)
+pub have_stayed : AreSound → (s : Setting) (h : List Entry) → HasFreeCertificates s → IsPlayed s h → HaveStayed (writes s h)
 have_stayed sound s h load o =
     carried_on HaveStayed s
     (record {

@@ -31,7 +31,7 @@ use Rattle.cmc_rules.specs.RevisionManager.{counts, oldest_of}
 use Rattle.cmc_rules.specs.Views.{certificate_at, present_views}
 use Rattle.cmc_rules.specs.declared.progress.OpenPass.{OpenPass}
 use Rattle.cmc_rules.specs.declared.progress.Stage.{Stage}
-use Rattle.cmc_rules.specs.declared.progress.Stage.TheVariants.{Given, Read}
+use Rattle.cmc_rules.specs.declared.progress.Stage.TheVariants.{Given, Read, Saved}
 use Rattle.cmc_run_laws.specs.Lengths.{Each}
 use Rattle.cmc_load_laws.specs.Measure.{measure}
 use Rattle.cmc_load_laws.specs.Frame.{IsSameOwner, seen_of}
@@ -128,3 +128,10 @@ CurrentWritesLower s [] = Unit {0}
 CurrentWritesLower s (Called (Pass n) call reply ∷ h) =
     (is_accepted reply ≡ true → (p : OpenPass) → open_pass s h n ≡ Some p → SeesAll s h p → IsLowering p.role p.seen p.stage call → LowersMeasure s h (Called (Pass n) call reply)) × CurrentWritesLower s h
 CurrentWritesLower s (e ∷ h) = CurrentWritesLower s h
+
+-- ---- writes in a plain run of a load
+
+-- Of which writes it is known there, whichever roles run: all but the status by which issuing ends an issuance with success.
+abbrev pub IsPlainLowering : Role → Views → Stage → Call → Type 0
+IsPlainLowering Issuing seen Saved call = ⊥
+IsPlainLowering role seen stage call = Unit {0}

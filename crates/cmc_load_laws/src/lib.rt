@@ -5,5 +5,8 @@
 mod lowering;
 mod writes;
 
-pub use lowering::{current_writes_lower_the_measure, plain_writes_lower_the_measure};
+pub use lowering::{
+    current_writes_lower_the_measure, each_load_write_lowers_the_measure,
+    load_writes_lower_the_measure, plain_writes_lower_the_measure,
+};
 pub use writes::each_write_is_for_one_certificate;

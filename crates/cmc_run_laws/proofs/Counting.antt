@@ -17,7 +17,7 @@ counted_less p q (e ∷ h) goes = by (p e) refl (counted_less p q h goes) where
   by false off low = let more = counted_more q e h in omega (arith, more, low)
 
 -- the counts of all parts together
-abbrev total : {A : Type 0} → (A → Entry → Bool) → List A → List Entry → ℕ
+abbrev pub total : {A : Type 0} → (A → Entry → Bool) → List A → List Entry → ℕ
 total q [] h = 0
 total q (x ∷ xs) h = count_of (q x) h + total q xs h
 
@@ -36,7 +36,7 @@ total_rises q (x ∷ xs) e h is = by (q x e) (is_in_part q xs e) refl refl is (t
   by false true here there one rises = let more = counted_more (q x) e h in let rest = rises there in omega (arith, more, rest)
   by false false here there one rises = absurd (cc one)
 
-in_all : {A : Type 0} → (p : Entry → Bool) (q : A → Entry → Bool) (xs : List A) (h : List Entry) → Each (λ (e : Entry). p e ≡ true → is_in_part q xs e ≡ true) h → count_of p h ≤ total q xs h
+pub in_all : {A : Type 0} → (p : Entry → Bool) (q : A → Entry → Bool) (xs : List A) (h : List Entry) → Each (λ (e : Entry). p e ≡ true → is_in_part q xs e ≡ true) h → count_of p h ≤ total q xs h
 in_all p q xs [] covers = omega arith
 in_all p q xs (e ∷ h) covers = by (p e) refl (in_all p q xs h covers.1) where
   by : (b : Bool) → p e ≡ b → count_of p h ≤ total q xs h → (if b then count_of p h + 1 else count_of p h) ≤ total q xs (e ∷ h)

@@ -72,13 +72,13 @@ plan_is now c file target r plan is =
 -- ---- what the Secret has
 
 -- the annotations and the data that the plan writes, over those that stood
-record IsFilled (c : Certificate) (file certificate ca : List ℕ) (k : Secret) : Type 0 where
-  pairs : List (List ℕ × List ℕ)
-  old : List (List ℕ × List ℕ)
-  annotations : k.meta.annotations ≡ marks false c pairs
-  parts : k.parts ≡ filled file certificate ca old
+pub record IsFilled (c : Certificate) (file certificate ca : List ℕ) (k : Secret) : Type 0 where
+  pub pairs : List (List ℕ × List ℕ)
+  pub old : List (List ℕ × List ℕ)
+  pub annotations : k.meta.annotations ≡ marks false c pairs
+  pub parts : k.parts ≡ filled file certificate ca old
 
-filled_by_call : (c : Certificate) (file certificate ca : List ℕ) (target : Option Secret) (k : Secret) → IsAsWritten (secret_call false c file certificate ca target) k → IsFilled c file certificate ca k
+pub filled_by_call : (c : Certificate) (file certificate ca : List ℕ) (target : Option Secret) (k : Secret) → IsAsWritten (secret_call false c file certificate ca target) k → IsFilled c file certificate ca k
 unfolding secret_call new_target old_target
 filled_by_call c file certificate ca None k is =
     let same : new_target false c file certificate ca ≡ is.new = cc is.writes in

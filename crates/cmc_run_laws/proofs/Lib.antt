@@ -3,28 +3,28 @@ mod Readied
 pub mod Failing
 pub mod Going
 pub mod Issued
-mod CalmScripts
-mod CalmViews
-mod CalmReplies
+pub mod CalmScripts
+pub mod CalmViews
+pub mod CalmReplies
 mod CalmNames
 mod CalmTargets
-mod RunningAlone
+pub mod RunningAlone
 mod OwnNames
-mod OwnRequests
+pub mod OwnRequests
 mod Unmoved
 mod Refusals
-mod SinceBegin
+pub mod SinceBegin
 mod NotForNothing
 mod IdleCalls
 mod NewConditions
-mod TablesChange
-mod InOrder
+pub mod TablesChange
+pub mod InOrder
 mod ValuesChange
 mod StandInsChange
-mod NeverIdle
+pub mod NeverIdle
 mod ReasonsEnough
-mod Counting
+pub mod Counting
 mod FewPasses
 mod PassEntries
 mod Tellings
-mod ShortRuns
+pub mod ShortRuns

@@ -88,7 +88,7 @@ alternative_small fields small =
     let key_small = back_small (name_octets fields.names.common) after_subject (back_small (value 2 (0 ∷ [])) after_version inside) in
     names_small fields.names.alternative (contents_small 160 attributes (back_small (spki_octets fields.key) tail key_small))
 
-own_is_read : (spec : CertSpec) (file : List ℕ) (key : PublicKey) (signature : List ℕ) → key_file_at file ≡ Some key → IsSmall (signed_octets (body_of spec key) signature)
+pub own_is_read : (spec : CertSpec) (file : List ℕ) (key : PublicKey) (signature : List ℕ) → key_file_at file ≡ Some key → IsSmall (signed_octets (body_of spec key) signature)
     → IsRequest (signed_octets (body_of spec key) signature) (fields_of spec key)
 unfolding body_of
 own_is_read spec file key signature reads small =

@@ -117,14 +117,14 @@ pub record AreCalm (s : Setting) (h : List Entry) : Type 0 where
 
 -- ---- where none is open
 
-none_calm : (s : Setting) (h : List Entry) → ((n : ℕ) → open_pass s h n ≡ None) → HasCalmReplies h → AreCalm s h
+pub none_calm : (s : Setting) (h : List Entry) → ((n : ℕ) → open_pass s h n ≡ None) → HasCalmReplies h → AreCalm s h
 none_calm s h none replies = record {
   passes = λ n p is. absurd (cc (none n, is));
   still = λ n p is. absurd (cc (none n, is));
   replies = replies;
 }
 
-shut_by : (x : Option OpenPass) → ((p : OpenPass) → x ≡ Some p → ⊥) → x ≡ None
+pub shut_by : (x : Option OpenPass) → ((p : OpenPass) → x ≡ Some p → ⊥) → x ≡ None
 shut_by None none = refl
 shut_by (Some p) none = absurd (none p refl)
 
@@ -234,7 +234,7 @@ value_calm s h n q (values.Judged approved) script calm is may =
 role_looks : (role : Role) → role ≡ roles.Issuing → looks_at_secret role ≡ true
 role_looks role is = ap looks_at_secret is
 
-saw_certificate : (s : Setting) (h : List Entry) (seen : Views) (c : Certificate) → seen.certificate ≡ Some c → StandsSeen s h seen → object_at (objects s h) (key_of (Cert c)) ≡ Some (Cert c)
+pub saw_certificate : (s : Setting) (h : List Entry) (seen : Views) (c : Certificate) → seen.certificate ≡ Some c → StandsSeen s h seen → object_at (objects s h) (key_of (Cert c)) ≡ Some (Cert c)
 saw_certificate s h seen c sees stands = stands (Cert c) (inl (subst (λ (x : Option Certificate). IsPart Cert x (Cert c)) (sym sees) refl))
 
 new_name : (s : Setting) (h : List Entry) (call : Call) → IsUnnamed call → IsNewName s h call
@@ -287,7 +287,7 @@ reply_calm s h q Barred call reply legal free within next at sees right = absurd
 
 -- ---- what a call leaves
 
-unread : (s : Setting) (h : List Entry) (q : OpenPass) (call : Call) (o : Object) → IsCallAt Saved q.role q.seen q.since call → IsReply s.faults (state s h) call (Found o) → ⊥
+pub unread : (s : Setting) (h : List Entry) (q : OpenPass) (call : Call) (o : Object) → IsCallAt Saved q.role q.seen q.since call → IsReply s.faults (state s h) call (Found o) → ⊥
 unread s h q call o at right =
     no_read (IsRaiseOf at.issues.certificate q.since) (objects s h) q.seen call o (found_is_read s.faults (state s h) call o right)
     (subst (OnSeen (IsRaiseOf at.issues.certificate q.since) q.seen) (sym at.planned) at.issues.status)
@@ -361,7 +361,7 @@ course_calm s h n q e script legal caused free calm opened (inl (inr (cause, may
 course_calm s h n q e script legal caused free calm opened (inr (inl (order, may, is))) = subst (λ (x : Entry). AreCalm s (x ∷ h)) (sym is) (ask_calm s h n q order script calm opened may)
 course_calm s h n q e script legal caused free calm opened (inr (inr (value, may, is))) = subst (λ (x : Entry). AreCalm s (x ∷ h)) (sym is) (value_calm s h n q value script calm opened may)
 
-step_calm : (s : Setting) (h : List Entry) (move : Move) (k : List Entry) → is_calm s.script ≡ true → IsLegal s h → IsCaused s h → AreFreeNames s h → AreCalm s h → IsPlainStep s h move k → AreCalm s k
+pub step_calm : (s : Setting) (h : List Entry) (move : Move) (k : List Entry) → is_calm s.script ≡ true → IsLegal s h → IsCaused s h → AreFreeNames s h → AreCalm s h → IsPlainStep s h move k → AreCalm s k
 step_calm s h moves.Script k script legal caused free calm step =
     effect_calm s (Script (scripted h + 1) ∷ h) (next_effect s h) k (λ n. shut_by (open_pass s h n) (λ p is. calm.still n p is step.plain.1)) calm.replies step.grows
 step_calm s h (moves.Deliver role kind to) k script legal caused free calm step =
@@ -380,14 +380,14 @@ step_calm s h (moves.Give n named given) k script legal caused free calm step = 
 step_calm s h (moves.Decide n named d) k script legal caused free calm step = absurd step.plain.1
 
 -- each history has free names enough: it has fewer entries than there are numbers
-abbrev NamesAreFree : Setting → Type 0
+abbrev pub NamesAreFree : Setting → Type 0
 NamesAreFree s = (h : List Entry) → AreNamesFree s h
 
 -- the law of generated names
 abbrev pub NamesLaw : Type 0
 NamesLaw = (s : Setting) (h : List Entry) → AreNamesFree s h
 
-free_names : (s : Setting) (h : List Entry) → NamesAreFree s → s.events < 2 ^ 64 → length h ≤ s.events → AreFreeNames s h
+pub free_names : (s : Setting) (h : List Entry) → NamesAreFree s → s.events < 2 ^ 64 → length h ≤ s.events → AreFreeNames s h
 free_names s h free room short object reply right = free h (omega (arith, accepted_short s h, short, room)) object reply right
 
 led_calm : (s : Setting) (ms : List Move) (h k : List Entry) → is_calm s.script ≡ true → NamesAreFree s → s.events < 2 ^ 64 → IsRun s h → AreCalm s h → LeadsPlainly s ms h k → AreCalm s k

@@ -32,7 +32,7 @@ use Rattle.cmc_run_laws.proofs.ReasonsEnough.{counted_more}
 
 -- ---- what the script has happen
 
-abbrev owes : Option Effect → ℕ
+abbrev pub owes : Option Effect → ℕ
 owes None = 0
 owes (Some effect) = 1
 
@@ -44,7 +44,7 @@ paid : (x : Option Effect) (effect : Effect) (n m : ℕ) → n + owes x ≤ m �
 paid x effect n m low is = let one : owes x ≡ 1 = ap owes is in omega (arith, low, one)
 
 -- each step has at most one thing happen
-effects_few : (s : Setting) (h : List Entry) → Follows s h → count_of is_effect h + owes (owed s h) ≤ scripted h
+pub effects_few : (s : Setting) (h : List Entry) → Follows s h → count_of is_effect h + owes (owed s h) ≤ scripted h
 unfolding Follows
 effects_few s [] follows = omega arith
 effects_few s (Script step ∷ h) follows =
@@ -63,7 +63,7 @@ start_is_effect other is = absurd (cc is)
 
 -- ---- all entries by their sorts
 
-by_sorts : (h : List Entry) → length h ≡ scripted h + count_of is_effect h + count_of is_delivery h + count_of is_begin h + count_of is_of_pass h
+pub by_sorts : (h : List Entry) → length h ≡ scripted h + count_of is_effect h + count_of is_delivery h + count_of is_begin h + count_of is_of_pass h
 by_sorts [] = refl
 by_sorts (Called User call reply ∷ h) = let is = by_sorts h in omega (arith, is)
 by_sorts (Called (Pass n) call reply ∷ h) = let is = by_sorts h in omega (arith, is)

@@ -97,11 +97,10 @@ abbrev pub ExplainsAudit : Status → List ℕ → Option (List ℕ) → Option 
 ExplainsAudit = StatusTells history_limit auditing.AnswersAudit RefusesHistory
 
 -- What a status says, at `load`, of what the sink held and holds. No other status comes: what is not read can't be too
--- long, no JSON or no scenario, and can't fail to be read.
+-- long, no JSON or no scenario, and can't fail to be read; and a load always ends within its room.
 abbrev pub ExplainsLoad : ℕ → Bool → ℕ → Status → Option (List ℕ) → Option (List ℕ) → Type 0
 ExplainsLoad workers alone count Done old new = (text : List ℕ) × IsLoadOf workers alone count text × Appends old new text
 ExplainsLoad workers alone count WriteFault old new = (text : List ℕ) × IsLoadOf workers alone count text × AppendsPrefix old new text
-ExplainsLoad workers alone count Spent old new = Spends (load_setup count) × Keeps old new
 ExplainsLoad workers alone count NoMemory old new = Keeps old new
 ExplainsLoad workers alone count other old new = ⊥
 

@@ -12,7 +12,6 @@ ghost use Rattle.cmc_rules.specs.Runs.{IsFinished, IsRun};
 ghost use Rattle.cmc_rules.specs.Safety.{IsSafe};
 ghost use Rattle.cmc_safety.specs.Completion.{CompletesIssuing};
 ghost use Rattle.cmc_safety.specs.Invariants.{KeepsInvariants};
-ghost use Rattle.cmc_scenario.specs.Loads.{load_setup};
 ghost use Rattle.cmc_scenario_print.specs.ScenarioTree.{scenario_tree};
 ghost use Rattle.cmc_kernel.specs.Kept.{on};
 ghost use Rattle.cmrun.specs.Headline.{AnswersRun, IsLoadOf, IsRunOf, RunsOn};
@@ -29,6 +28,7 @@ use crate::words::{Command, read_words};
 use cmc_answers::Signer;
 use cmc_audit_laws::each_world_is_audited_yes;
 use cmc_keys::KeyMaker;
+use cmc_load_ends::generated_loads_end;
 use cmc_report::{Lines, history_text, summary_text};
 use cmc_scenario::{BadScenario, Scenario, generate, read, value_of_scenario};
 use cmc_seed::HashSeed;
@@ -198,7 +198,7 @@ fn printed_value(alloc: Global, alone: bool, scenario: &Scenario) -> Result<Valu
     value_of_scenario(alloc, scenario)
 }
 
-/// The lines of the run of the generated scenario of so many Certificates.
+/// The lines of the run of the generated scenario of so many Certificates, which always ends within its room.
 fn load_lines<R: Threads + Wait + Sync, M: KeyMaker, N: Signer, G: Gate>(
     rt: &R,
     alloc: Global,
@@ -213,8 +213,9 @@ fn load_lines<R: Threads + Wait + Sync, M: KeyMaker, N: Signer, G: Gate>(
     requires some { 1 ≤ count }
     requires few { count ≤ 200 }
     ensures ok { IfOk result (λ lines. IsLoadOf workers alone count (joined lines)) }
-    ensures err { IfErr result (λ status. SpendsOn (load_setup count) status) }
+    ensures err { IfErr result (λ status. status ≡ Status.NoMemory) }
 {
+    generated_loads_end();
     let scenario = generate(alloc, count)?;
     let value = printed_value(alloc, alone, &scenario)?;
     let lines = run_of(

@@ -1,0 +1,2 @@
+pub mod LoadLengths
+pub mod LoadWrites

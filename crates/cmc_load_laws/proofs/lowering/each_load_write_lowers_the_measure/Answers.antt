@@ -1,0 +1,9 @@
+use Rattle.cmc_moves.proofs.Sounds.{each_sound}
+use Rattle.cmc_load_laws.proofs.EachLowers.{each_lowers}
+use Rattle.cmc_load_laws.proofs.RolesLower.{role_lowers}
+use Rattle.cmc_load_laws.proofs.lowering.each_load_write_lowers_the_measure.Goals as goal
+
+pub returns : goal.returns
+returns c =
+    each_lowers each_sound c.made_key_fits.ensures c.plain_passes_run_alone.ensures.alone c.plain_passes_run_alone.ensures.sees (role_lowers each_sound c.made_key_fits.ensures c.own_request_is_wanted.ensures) c.due_at_once.ensures.later
+    c.lead_is_below_the_lifetime.ensures
