@@ -2,7 +2,6 @@
 use Rattle.std.proofs.Common.{◌≡◌, ◌≢◌, ℕ, zero, suc, ◌+◌, ◌-◌, List, [], ◌∷◌, ◌++◌, Some, true, refl, sym, ap, subst, ◌∙◌, arith}
 use Rattle.std.specs.Prelude.{codes, slice_get}
 use Rattle.cmc_meta.specs.declared.key.Key.{Key}
-use Rattle.cmc_meta.specs.declared.key.Kind.TheVariants as kinds
 use Rattle.cmc_objects.specs.declared.certificate.Certificate.{Certificate}
 use Rattle.cmc_objects.specs.declared.object.Object.{Object}
 use Rattle.cmc_objects.specs.declared.object.Object.TheVariants.{Cert}

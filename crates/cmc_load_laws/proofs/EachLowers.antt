@@ -1,5 +1,5 @@
 -- In a plain run of a load each accepted write of a role lowers the measure.
-use Rattle.std.proofs.Common.{◌≡◌, ◌<◌, ◌^◌, ◌+◌, ℕ, List, [], ◌∷◌, true, refl, sym, subst, ◌∙◌}
+use Rattle.std.proofs.Common.{◌≡◌, ◌<◌, ◌^◌, ℕ, List, ◌∷◌, true, refl, sym, subst, ◌∙◌}
 use Rattle.cmc_objects.specs.declared.call.Call.{Call}
 use Rattle.cmc_objects.specs.declared.call.Reply.{Reply}
 use Rattle.cmc_objects.specs.declared.entry.Entry.{Entry}

@@ -1,5 +1,5 @@
 -- Of the requests of issuances under way that are issued: what is true of each of them stays so.
-use Rattle.std.proofs.Common.{◌≡◌, ◌⊎◌, ◌+◌, ◌≤◌, ℕ, ℤ, List, Bool, true, false, Option, Some, None, refl, sym, ap, subst, ◌∙◌, inl, inr, arith}
+use Rattle.std.proofs.Common.{◌≡◌, ◌⊎◌, ◌+◌, ◌≤◌, ℕ, List, Bool, true, false, Option, Some, None, refl, sym, ap, subst, ◌∙◌, inl, inr, arith}
 use Rattle.std.specs.Prelude.{unwrap_or}
 use Rattle.cmc_meta.specs.declared.conditions.ConditionKind.TheVariants.{Ready}
 use Rattle.cmc_meta.specs.declared.key.Key.{Key}

@@ -1,5 +1,5 @@
 -- In a run of a load each request is readable, and none is denied.
-use Rattle.std.proofs.Common.{◌≡◌, ◌≤◌, length, ◌⊎◌, ◌+◌, ◌==◌, ◌&&◌, ◌||◌, ℕ, ℤ, List, [], ◌∷◌, Bool, true, false, not, Some, refl, sym, ap, ◌∙◌}
+use Rattle.std.proofs.Common.{◌≡◌, ◌≤◌, length, ◌==◌, ◌&&◌, ◌||◌, ℕ, ℤ, List, [], ◌∷◌, Bool, true, false, not, Some, refl, sym, ap, ◌∙◌}
 use Rattle.std.specs.List.{list_any}
 use Rattle.std.specs.Prelude.{is_some, if◌then◌else◌}
 use Rattle.cmc_der.specs.Keys.{EcKey, OtherKey, PublicKey, RequestFields, RsaKey, key_kind_of}

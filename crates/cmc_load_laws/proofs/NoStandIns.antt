@@ -1,5 +1,5 @@
 -- For a usual Certificate issuing plans no temporary certificate.
-use Rattle.std.proofs.Common.{◌≡◌, ◌&&◌, ℤ, List, ℕ, Bool, true, false, not, Option, Some, None, refl, ◌∙◌}
+use Rattle.std.proofs.Common.{◌≡◌, ◌&&◌, ℤ, List, ℕ, Bool, true, false, not, Option, Some, None, refl}
 use Rattle.std.specs.Prelude.{codes, if◌then◌else◌}
 use Rattle.cmc_objects.specs.declared.certificate.Certificate.{Certificate}
 use Rattle.cmc_objects.specs.declared.request.CertificateRequest.{CertificateRequest}

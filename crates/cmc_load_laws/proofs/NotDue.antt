@@ -1,5 +1,5 @@
 -- What was signed at the moment for a usual request is not due for renewal.
-use Rattle.std.proofs.Common.{◌≡◌, ◌≤◌, ◌<◌, ◌+◌, ◌==◌, ◌&&◌, ◌||◌, ℕ, ℤ, pos, ◌+ℤ◌, ◌-ℤ◌, min, List, [], ◌∷◌, Bool, true, false, Option, Some, None, ap, subst, ◌∙◌, arith, int_lt}
+use Rattle.std.proofs.Common.{◌≡◌, ◌≤◌, ◌<◌, ◌+◌, ◌==◌, ◌&&◌, ℕ, ℤ, pos, ◌+ℤ◌, ◌-ℤ◌, min, List, [], ◌∷◌, Bool, true, false, Option, Some, None, ap, subst, ◌∙◌, arith, int_lt}
 use Rattle.std.proofs.lemmas.Bool.{and_parts, eqb-true, or_parts}
 use Rattle.std.proofs.lemmas.Bool.Decides.{nat_tests}
 use Rattle.std.specs.Prelude.{codes, nat_lt}

@@ -1,5 +1,5 @@
 -- Of several requests of different revisions the oldest is of an earlier revision than the Certificate has.
-use Rattle.std.proofs.Common.{◌≡◌, ◌⊎◌, ◌+◌, ◌==◌, ◌≤◌, ◌<◌, ◌&&◌, ◌∷◌, [], ℕ, List, length, Bool, true, false, Option, Some, None, refl, sym, ap, ◌∙◌, inl, inr, suc, zero, arith}
+use Rattle.std.proofs.Common.{◌≡◌, ◌==◌, ◌≤◌, ◌<◌, ◌∷◌, [], ℕ, List, length, Bool, true, false, Option, Some, None, refl, sym, ap, ◌∙◌, inl, inr, suc, zero, arith}
 use Rattle.std.proofs.lemmas.Bool.{and_parts, ltb-false, ltb-true}
 use Rattle.std.proofs.lemmas.Bool.Decides.{Decides-eqb}
 use Rattle.std.specs.Prelude.{filter, is_some, nat_lt, unwrap_or, if◌then◌else◌}

@@ -1,8 +1,11 @@
 -- What a world keeps of its work queues, and what is known before a move of what the move does to them.
-use Rattle.std.specs.Prelude.{◌≡◌, ◌↔◌, ◌≤◌, ℕ, ℤ, ◌+◌, IsTrue, true, false, List, ◌∷◌, Option, Some, None, int_le, nat_le}
+use Rattle.std.specs.Prelude.{◌≡◌, ◌↔◌, ◌≤◌, ℕ, ℤ, ◌+◌, IsTrue, Bool, true, false, ◌&&◌, List, [], ◌∷◌, Option, Some, None, is_none, int_le, nat_le, if◌then◌else◌}
+use Rattle.std.specs.List.{list_any}
 use Rattle.cmc_meta.specs.declared.key.Key.{Key}
 use Rattle.cmc_meta.specs.declared.key.Kind.{Kind}
+use Rattle.cmc_meta.specs.Keys.{key_eq}
 use Rattle.cmc_objects.specs.declared.entry.Entry.{Entry}
+use Rattle.cmc_objects.specs.declared.object.Object.{Object}
 use Rattle.cmc_objects.specs.declared.role.Role.{Role}
 use Rattle.cmc_objects.specs.Informers.{has_informer, kind_of_work}
 use Rattle.cmc_queue.specs.Queues.{has_room, row_of, ChangesRow, ChangesRows, Work}
@@ -11,7 +14,7 @@ use Rattle.cmc_queue.specs.declared.row.Row.{Row}
 use Rattle.cmc_queue.specs.Rows.{no_row, ticked}
 use Rattle.cmc_model.specs.declared.write.Write.{Write}
 use Rattle.cmc_model.specs.Histories.{Setting, accepted, moment}
-use Rattle.cmc_model.specs.Writes.{is_known, writes}
+use Rattle.cmc_model.specs.Writes.{is_known, kind_eq, writes}
 use Rattle.cmc_rules.specs.declared.effect.Effect.{Effect}
 use Rattle.cmc_rules.specs.declared.effect.Effect.TheVariants as effects
 use Rattle.cmc_rules.specs.Legality.{IsOpen}
@@ -117,6 +120,20 @@ pub record AreKnownOf (role : Role) (ws : List Write) (keys : List Key) : Type 0
 
 abbrev pub AreKnownKeys : Setting → List Entry → Role → List Key → Type 0
 AreKnownKeys s h role keys = AreKnownOf role (writes s h) keys
+
+-- one of the writes deletes what was under the key
+abbrev pub is_deleted : Key → List Write → Bool
+is_deleted key ws = list_any (λ w. key_eq w.key key && is_none w.object) ws
+
+-- these are keys of the role's work, and among them each under which one of the writes deletes an object
+pub record AreDeletedOf (role : Role) (ws : List Write) (keys : List Key) : Type 0 where
+  pub work : (key : Key) → is_among keys key ≡ true → key.kind ≡ kind_of_work role
+  pub all : (key : Key) → key.kind ≡ kind_of_work role → is_deleted key ws ≡ true → is_among keys key ≡ true
+
+-- the keys of the role's work among those of these objects
+abbrev pub work_among : Role → List (Key × Object) → List Key
+work_among role [] = []
+work_among role (e ∷ es) = if kind_eq e.0.kind (kind_of_work role) then e.0 ∷ work_among role es else work_among role es
 
 -- what the step brings about changes no queue
 abbrev pub IsOfStore : Option Effect → Type 0

@@ -1,5 +1,6 @@
 //! A step of the script is made, and changes the work queues: by a tick, a stop or a start.
-ghost use Rattle.std.specs.Prelude.{◌≡◌, ◌+◌, ◌++◌, ◌↔◌, ◌∷◌, [], IsTrue, IfOk, OnOk, OnErr, Some};
+ghost use Rattle.std.specs.Prelude.{◌≡◌, ◌+◌, ◌++◌, ◌↔◌, ◌∷◌, [], IsTrue, IfOk, OnOk, OnErr, None, Some, if◌then◌else◌};
+ghost use Rattle.cmc_model.specs.Writes.{kind_eq};
 ghost use Rattle.cmc_objects.specs.Informers.{kind_of_work};
 ghost use Rattle.cmc_rules.specs.Runs.{IsRun};
 ghost use Rattle.cmc_rules.specs.Scripts.{scripted, step_at};
@@ -7,15 +8,16 @@ ghost use Rattle.cmc_moves.specs.Answers.{Answers, Leaves};
 ghost use Rattle.cmc_moves.specs.declared.moves.Move.TheVariants as moves;
 ghost use Rattle.cmc_kernel.specs.Kept.{on};
 ghost use Rattle.cmc_kernel.specs.Plain.{IsStepReady};
-ghost use Rattle.cmc_world.specs.Fed.{AreKnownKeys, AreKnownOf, IsAhead, IsFed, IsToTurn};
+ghost use Rattle.cmc_world.specs.Fed.{AreDeletedOf, AreKnownKeys, IsAhead, IsFed, IsToTurn, work_among};
 
 use cmc_kernel::{Kernel, Stepped};
 use cmc_meta::Key;
 use cmc_model::Write;
-use cmc_objects::{Role, Step, kind_of_work};
+use cmc_objects::{Object, Role, Step, kind_of_work};
 use cmc_queue::Queue;
 use cmc_waking::{Queues, starting_queue};
 use std::alloc::{AllocError, Global};
+use std::collections::BTreeMap;
 
 /// What a step of the script does to the work queues.
 #[derive(Drop)]
@@ -30,33 +32,60 @@ pub(crate) enum Ahead {
     Start(Role, Queue),
 }
 
-/// Adds the key of the write, where it is one of the role's work.
-fn put_known(keys: &mut Vec<Key>, role: Role, write: &Write) -> Result<(), AllocError>
-    ensures work { OnOk result (write.now.key.kind ≡ kind_of_work role → keys.new.items ≡ keys.old.items ++ write.now.key ∷ []) }
-    ensures other { OnOk result ((write.now.key.kind ≡ kind_of_work role → ⊥) → keys.new.items ≡ keys.old.items) }
+/// Adds the key of the write, where it is one of the role's work and the write deletes what was under it.
+fn put_deleted(keys: &mut Vec<Key>, role: Role, write: &Write) -> Result<(), AllocError>
+    ensures work { OnOk result (write.now.key.kind ≡ kind_of_work role → write.now.object ≡ None → keys.new.items ≡ keys.old.items ++ write.now.key ∷ []) }
+    ensures other { OnOk result ((write.now.key.kind ≡ kind_of_work role → write.now.object ≡ None → ⊥) → keys.new.items ≡ keys.old.items) }
 {
-    if write.key.kind.same(kind_of_work(role)) {
+    if write.object.is_none() && write.key.kind.same(kind_of_work(role)) {
         keys.push(write.key.copy()?)?;
     }
     Ok(())
 }
 
-/// The keys of the role's work that one of the writes named.
-fn known_of(alloc: Global, role: Role, writes: &[Write]) -> Result<Vec<Key>, AllocError>
-    ensures { IfOk result (λ keys. AreKnownOf role writes.now keys.items) }
+/// The keys of the role's work under which one of the writes deleted an object.
+fn deleted_of(alloc: Global, role: Role, writes: &[Write]) -> Result<Vec<Key>, AllocError>
+    ensures { IfOk result (λ keys. AreDeletedOf role writes.now keys.items) }
 {
     let mut keys = Vec::new(alloc);
     for write in writes {
-        put_known(&mut keys, role, write)?;
+        put_deleted(&mut keys, role, write)?;
     }
     Ok(keys)
 }
 
-/// The keys of the role's work that an accepted write named.
+/// Adds the key, where it is one of the role's work.
+fn put_present(keys: &mut Vec<Key>, role: Role, key: &Key) -> Result<(), AllocError>
+    ensures { OnOk result (keys.new.items ≡ (if kind_eq key.now.kind (kind_of_work role) then keys.old.items ++ key.now ∷ [] else keys.old.items)) }
+{
+    if key.kind.same(kind_of_work(role)) {
+        keys.push(key.copy()?)?;
+    }
+    Ok(())
+}
+
+/// Adds the keys of the role's work under which an object exists.
+fn add_present(
+    keys: &mut Vec<Key>,
+    role: Role,
+    objects: &BTreeMap<Key, Object>,
+) -> Result<(), AllocError>
+    ensures { OnOk result (keys.new.items ≡ keys.old.items ++ work_among role objects.now.entries) }
+{
+    for (key, _) in objects.iter() {
+        put_present(keys, role, key)?;
+    }
+    Ok(())
+}
+
+/// The keys of the role's work that an accepted write named: those under which one deleted an object, and those under
+/// which an object exists.
 pub(crate) fn known_keys(alloc: Global, kernel: &Kernel, role: Role) -> Result<Vec<Key>, AllocError>
     ensures { IfOk result (λ keys. on AreKnownKeys kernel.now role keys.items) }
 {
-    known_of(alloc, role, kernel.log().as_slice())
+    let mut keys = deleted_of(alloc, role, kernel.log().as_slice())?;
+    add_present(&mut keys, role, kernel.objects())?;
+    Ok(keys)
 }
 
 /// What the step, which comes next, does to the work queues.
