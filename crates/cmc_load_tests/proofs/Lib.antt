@@ -1,0 +1,3 @@
+pub mod Present
+pub mod Sums
+pub mod Written

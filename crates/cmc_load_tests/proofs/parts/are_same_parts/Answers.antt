@@ -1,0 +1,5 @@
+use Rattle.cmc_load_tests.proofs.Written.{told_pairs}
+use Rattle.cmc_load_tests.proofs.parts.are_same_parts.Goals as goal
+
+pub returns : goal.returns
+returns c = told_pairs c.same.result c.args.left.now c.args.right.now c.same.ensures
