@@ -4,5 +4,6 @@ pub mod MatchLaws
 pub mod TimeLaws
 pub mod PairLaws
 pub mod NumberLaws
+pub mod OnlyLaws
 pub mod FactLaws
 pub mod ReadLaws

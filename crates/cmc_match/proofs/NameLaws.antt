@@ -1,11 +1,11 @@
 -- The tests on names say what they are to say.
-use Rattle.std.proofs.Common.{◌≡◌, ℕ, Bool, true, false, ◌&&◌, ◌||◌, eqb, cond, List, [], ◌∷◌, filter, length, Option, Some, None, refl, sym, ap, subst, ◌∙◌, inl, inr, arith}
+use Rattle.std.proofs.Common.{◌≡◌, ℕ, Bool, true, false, ◌&&◌, ◌||◌, eqb, cond, List, [], ◌∷◌, filter, length, map, Option, Some, None, refl, sym, ap, subst, ◌∙◌, inl, inr, arith}
 use Rattle.std.specs.Str.{bytes_eq}
 use Rattle.std.specs.List.{list_any, list_all, cons_option}
 use Rattle.std.specs.Option.{option_map_or}
 use Rattle.std.specs.Prelude.{◌==◌, if◌then◌else◌}
 use Rattle.cmc_x509_build.specs.Addresses.{address_at}
-use Rattle.std.proofs.lemmas.Bool.{cases_Bool}
+use Rattle.std.proofs.lemmas.Bool.{cases_Bool, and_parts}
 use Rattle.std.proofs.lemmas.Bool.Decides.{Decides-eqb}
 use Rattle.std.proofs.lemmas.Slice.Eq.{bytes_eq-Decides}
 use Rattle.cmc_der.specs.Values.{BeginsWith}
@@ -14,7 +14,8 @@ use Rattle.cmc_x509.specs.Lists.{IsValues, IsValueList}
 use Rattle.cmc_x509.proofs.ListLaws.{values_again}
 use Rattle.cmc_match.specs.Sets.{IsSameSet, is_among, is_within, is_same_set}
 use Rattle.cmc_match.proofs.SetLaws.{sets}
-use Rattle.cmc_match.specs.SubjectNames.{names_tagged, is_address, addresses, value_list, values_of, is_octets, is_written_by, addresses_written}
+use Rattle.cmc_objects.specs.declared.certificate.CertSpec.{CertSpec}
+use Rattle.cmc_match.specs.SubjectNames.{names_tagged, is_address, addresses, value_list, values_of, is_octets, is_written_by, addresses_written, has_same_names, has_same_addresses, has_alternative}
 
 -- the values that the octets are
 pub values_are : (octets : List ℕ) (values : List Value) → IsValues octets values → values_of octets ≡ values
@@ -78,6 +79,51 @@ no_name_left octets tag left end none = ap (names_tagged tag) (values_end octets
 pub same_in_order : (alternative : List ℕ) (tag : ℕ) (texts : List (List ℕ)) → names_tagged tag (values_of alternative) ≡ texts → is_same_set texts (names_tagged tag (values_of alternative)) ≡ true
 same_in_order alternative tag texts is =
     (sets texts (names_tagged tag (values_of alternative))).1 (subst (IsSameSet texts) (sym is) (λ text. (λ there. there, λ there. there)))
+
+-- ---- names that are all of one tag
+
+-- what the texts that are left say of all names
+pub just_later : (octets : List ℕ) (kind : ℕ) (body rest : List ℕ) (tag : ℕ) (left others : List (List ℕ)) (Whole : Type 0) → BeginsWith octets kind body rest → IsValueList rest
+    → kind ≡ tag → left ≡ body ∷ others → (values_of octets ≡ map (λ text. (tag, text)) left → Whole) → values_of rest ≡ map (λ text. (tag, text)) others → Whole
+just_later octets kind body rest tag left others Whole h list same is kept equal =
+    kept (values_next octets kind body rest h list
+    ∙ ap (λ (vs : List Value). (kind, body) ∷ vs) equal
+    ∙ ap (λ (k : ℕ). (k, body) ∷ map (λ text. (tag, text)) others) same
+    ∙ sym (ap (map (λ text. (tag, text))) is))
+
+pub nothing_left : (octets : List ℕ) (tag : ℕ) (left : List (List ℕ)) → octets ≡ [] → (length left == 0) ≡ true → values_of octets ≡ map (λ text. (tag, text)) left
+nothing_left octets tag left end none = values_end octets end ∙ ap (map (λ text. (tag, text))) (no_texts left none)
+
+tagged_same : (tag : ℕ) (texts : List (List ℕ)) → names_tagged tag (map (λ text. (tag, text)) texts) ≡ texts
+tagged_same tag [] = refl
+tagged_same tag (text ∷ texts) = rw ((Decides-eqb tag tag).1 refl) (ap (λ (l : List (List ℕ)). text ∷ l) (tagged_same tag texts))
+
+tagged_other : (kind tag : ℕ) (texts : List (List ℕ)) → (kind == tag) ≡ false → names_tagged tag (map (λ text. (kind, text)) texts) ≡ []
+tagged_other kind tag [] other = refl
+tagged_other kind tag (text ∷ texts) other = rw other (tagged_other kind tag texts other)
+
+all_four : (a b c d : Bool) → a ≡ true → b ≡ true → c ≡ true → d ≡ true → (a && (b && (c && d))) ≡ true
+all_four a b c d first second third fourth = rw (first, second, third, fourth) refl
+
+same_none : (tag : ℕ) (texts : List (List ℕ)) (alternative : List ℕ) → (length texts == 0) ≡ true → names_tagged tag (values_of alternative) ≡ [] → has_same_names tag texts alternative ≡ true
+same_none tag texts alternative empty none =
+    ap (λ (l : List (List ℕ)). is_same_set l (names_tagged tag (values_of alternative))) (sym (no_texts texts empty)) ∙ ap (is_same_set []) none
+
+-- DNS names alone are all that is asked for
+pub dns_alone : (spec : CertSpec) (alternative : List ℕ) → ((length spec.ip_addresses == 0) && ((length spec.uris == 0) && (length spec.emails == 0))) ≡ true
+    → values_of alternative ≡ map (λ text. (130, text)) spec.dns_names → has_alternative spec alternative ≡ true
+dns_alone spec alternative alone is =
+    let parts = and_parts (length spec.ip_addresses == 0) ((length spec.uris == 0) && (length spec.emails == 0)) alone in
+    let others = and_parts (length spec.uris == 0) (length spec.emails == 0) parts.1 in
+    let ips = parts.0 in
+    let uris = others.0 in
+    let emails = others.1 in
+    let dns : has_same_names 130 spec.dns_names alternative ≡ true = same_in_order alternative 130 spec.dns_names (ap (names_tagged 130) is ∙ tagged_same 130 spec.dns_names) in
+    let none : (tag : ℕ) → (130 == tag) ≡ false → names_tagged tag (values_of alternative) ≡ [] = λ tag other. ap (names_tagged tag) is ∙ tagged_other 130 tag spec.dns_names other in
+    let written : has_same_addresses spec.ip_addresses alternative ≡ true =
+    ap (λ (l : List (List ℕ)). is_same_set (addresses_written l) (addresses (values_of alternative))) (sym (no_texts spec.ip_addresses ips)) ∙ ap (λ (l : List (List ℕ)). is_same_set [] (filter is_address l)) (none 135 refl) in
+    all_four (has_same_names 130 spec.dns_names alternative) (has_same_addresses spec.ip_addresses alternative) (has_same_names 134 spec.uris alternative) (has_same_names 129 spec.emails alternative)
+    dns written (same_none 134 spec.uris alternative uris (none 134 refl)) (same_none 129 spec.emails alternative emails (none 129 refl))
 
 pub name_nowhere : (octets : List ℕ) (tag : ℕ) (name : List ℕ) (whole : Bool) → octets ≡ [] → is_among (names_tagged tag (values_of octets)) name ≡ whole → false ≡ whole
 name_nowhere octets tag name whole e kept =

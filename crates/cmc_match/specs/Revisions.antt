@@ -1,5 +1,6 @@
 -- The revision of a Certificate that a CertificateRequest is for.
 use Rattle.std.specs.Prelude.{ℕ, ◌+◌, Bool, false, ◌==◌, length, List, filter, find, Option, Some, None, unwrap_or, codes, if◌then◌else◌}
+use Rattle.std.specs.Str.{bytes_eq}
 use Rattle.cmc_meta.specs.Decimals.{number_in}
 use Rattle.cmc_meta.specs.PairLists.{text_by_key}
 use Rattle.cmc_objects.specs.declared.request.CertificateRequest.{CertificateRequest}
@@ -19,6 +20,11 @@ revision_of request = number_of (revision_text request)
 abbrev pub is_number : ℕ → Option ℕ → Bool
 is_number revision None = false
 is_number revision (Some number) = number == revision
+
+-- the annotation has this text
+abbrev pub is_text_of : List ℕ → Option (List ℕ) → Bool
+is_text_of digits None = false
+is_text_of digits (Some text) = bytes_eq text digits
 
 abbrev pub is_of_revision : ℕ → CertificateRequest → Bool
 is_of_revision revision request = is_number revision (revision_of request)

@@ -69,9 +69,12 @@ has_same_names tag texts alternative = is_same_set texts (names_tagged tag (valu
 abbrev pub has_same_addresses : List (List ℕ) → List ℕ → Bool
 has_same_addresses texts alternative = is_same_set (addresses_written texts) (addresses (values_of alternative))
 
+-- the alternative names are those that the specification asks for, each kind of them as a set
+abbrev pub has_alternative : CertSpec → List ℕ → Bool
+has_alternative spec alternative =
+    has_same_names 130 spec.dns_names alternative
+    && (has_same_addresses spec.ip_addresses alternative
+    && (has_same_names 134 spec.uris alternative && has_same_names 129 spec.emails alternative))
+
 unfoldable pub has_names : CertSpec → SubjectNames → Bool
-has_names spec names =
-    bytes_eq (common_text names.common) spec.common_name
-    && (has_same_names 130 spec.dns_names names.alternative
-    && (has_same_addresses spec.ip_addresses names.alternative
-    && (has_same_names 134 spec.uris names.alternative && has_same_names 129 spec.emails names.alternative)))
+has_names spec names = bytes_eq (common_text names.common) spec.common_name && has_alternative spec names.alternative

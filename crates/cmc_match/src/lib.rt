@@ -15,5 +15,5 @@ pub use facts::{facts_for, facts_mean, facts_of, pair_in, public_in};
 pub use marks::{asks_for_temporary, has_text, is_next_key, is_temporary};
 pub use matching::{key_fits, key_fits_as_read, request_answers, request_has_key, request_matches};
 pub use names::has_names;
-pub use revisions::{current_request, is_of, next_request, revision_of};
+pub use revisions::{OfRevision, current_request, is_of, next_request, requests_for, revision_of};
 pub use sets::is_same_set;

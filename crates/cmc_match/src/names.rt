@@ -1,7 +1,7 @@
 //! The names that a Certificate asks for, and those of a certification request.
 ghost use Rattle.std.specs.List.{list_any, list_all};
 ghost use Rattle.std.specs.Option.{option_map_or};
-ghost use Rattle.std.specs.Prelude.{◌≡◌, ◌↔◌, ◌==◌, ◌&&◌, ◌||◌, ◌∷◌, length, true, IfSome, IsTrue, if◌then◌else◌};
+ghost use Rattle.std.specs.Prelude.{◌≡◌, ◌↔◌, ◌==◌, ◌&&◌, ◌||◌, ◌∷◌, length, map, true, IfSome, IsTrue, if◌then◌else◌};
 ghost use Rattle.std.specs.Str.{bytes_eq};
 ghost use Rattle.cmc_der.specs.Keys.{text_shown, names_shown};
 ghost use Rattle.cmc_x509.specs.Lists.{IsValueList};
@@ -129,6 +129,26 @@ fn has_same_names(alternative: &[u8], tag: u8, texts: &[Text]) -> bool
     has_each(alternative, tag, texts) && has_no_other(alternative, tag, texts)
 }
 
+// Whether the names are all of this tag, and are these texts, in this order.
+fn are_just(alternative: &[u8], tag: u8, texts: &[Text]) -> bool
+    requires { IsValueList alternative.now }
+    ensures { result ≡ true → values_of alternative.now ≡ map (λ text. (tag, text)) texts.now }
+{
+    let mut rest = alternative;
+    let mut left = texts;
+    while let Some((kind, contents, after)) = next_name(rest) {
+        if kind != tag {
+            return false;
+        }
+        let Some(others) = behind(left, contents) else {
+            return false;
+        };
+        left = others;
+        rest = after;
+    }
+    left.is_empty()
+}
+
 fn is_address(octets: &[u8]) -> bool
     ensures { result ≡ words.is_address octets.now }
 {
@@ -242,15 +262,35 @@ fn is_common(common: Option<&[u8]>, text: &Text) -> bool
     common_text(common) == text.as_slice()
 }
 
+fn asks_for_dns_names_alone(spec: &CertSpec) -> bool
+    ensures { result ≡ ((length spec.now.ip_addresses == 0) && ((length spec.now.uris == 0) && (length spec.now.emails == 0))) }
+{
+    spec.ip_addresses.as_slice().is_empty()
+        && (spec.uris.as_slice().is_empty() && spec.emails.as_slice().is_empty())
+}
+
+// Most specifications ask for DNS names alone, and one walk over the names tells that these are they.
+fn has_alternative(spec: &CertSpec, alternative: &[u8]) -> bool
+    requires { IsValueList alternative.now }
+    ensures { result ≡ words.has_alternative spec.now alternative.now }
+{
+    if asks_for_dns_names_alone(spec) {
+        let just = are_just(alternative, DNS_NAME, spec.dns_names.as_slice());
+        if just {
+            return true;
+        }
+    }
+    has_same_names(alternative, DNS_NAME, spec.dns_names.as_slice())
+        && has_same_addresses(alternative, spec.ip_addresses.as_slice())
+        && has_same_names(alternative, URI, spec.uris.as_slice())
+        && has_same_names(alternative, EMAIL, spec.emails.as_slice())
+}
+
 /// Whether the names of a certification request are those that the specification asks for.
 #[tactic(auto, unfolding(crate::specs::SubjectNames::has_names))]
 pub fn has_names(spec: &CertSpec, names: &Names<'_>) -> bool
     requires { IsValueList names.now.alternative.now }
     ensures { result ≡ words.has_names spec.now (names_shown names.now) }
 {
-    is_common(names.common, &spec.common_name)
-        && has_same_names(names.alternative, DNS_NAME, spec.dns_names.as_slice())
-        && has_same_addresses(names.alternative, spec.ip_addresses.as_slice())
-        && has_same_names(names.alternative, URI, spec.uris.as_slice())
-        && has_same_names(names.alternative, EMAIL, spec.emails.as_slice())
+    is_common(names.common, &spec.common_name) && has_alternative(spec, names.alternative)
 }

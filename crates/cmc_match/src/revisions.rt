@@ -1,10 +1,12 @@
 //! The revision of a Certificate that a CertificateRequest is for.
+ghost use Rattle.std.specs.List.{list_any};
 ghost use Rattle.std.specs.Option.{option_copied};
-ghost use Rattle.std.specs.Prelude.{◌≡◌, ◌<◌, ◌^◌, ℕ, IfSome, Some, decimal, length, filter, find};
+ghost use Rattle.std.specs.Prelude.{◌≡◌, ◌<◌, ◌^◌, ℕ, IfSome, Some, decimal, filter, find, length, nat_lt};
 ghost use Rattle.cmc_match.specs.Revisions as words;
 
 use cmc_meta::{Text, number_in};
 use cmc_objects::{CertificateRequest, Shared, text_under};
+use itoa::Buffer;
 
 fn number_of(text: Option<&Text>) -> Option<u64>
     ensures { result ≡ words.number_of (option_copied text.entry) }
@@ -47,36 +49,71 @@ pub fn is_of(request: &CertificateRequest, revision: u64) -> bool
     }
 }
 
-fn count_of(requests: &[Shared<CertificateRequest>], revision: u64) -> usize
-    ensures { result ≡ length (filter (λ request. words.is_of_revision revision request) requests.now) }
+/// Whether the annotation of the request writes a revision in these digits.
+fn is_written(request: &CertificateRequest, digits: &str) -> bool
+    ensures { result ≡ words.is_text_of digits.now (words.revision_text request.now) }
 {
-    requests
-        .iter()
-        .filter(|request| is_of(request, revision))
-        .count()
+    match text_under(
+        &request.meta.annotations,
+        "cert-manager.io/certificate-revision",
+    ) {
+        None => false,
+        Some(text) => text.as_str() == digits,
+    }
 }
 
-fn first_of(
-    requests: &[Shared<CertificateRequest>],
-    revision: u64,
-) -> Option<&Shared<CertificateRequest>>
-    ensures { option_copied result ≡ find (λ request. words.is_of_revision revision request) requests.now }
+fn is_any_written(requests: &[Shared<CertificateRequest>], digits: &str) -> bool
+    ensures { result ≡ list_any (λ request. words.is_text_of digits.now (words.revision_text request)) requests.now }
 {
-    requests.iter().find(|request| is_of(request, revision))
+    requests.iter().any(|request| is_written(request, digits))
 }
 
-#[tactic(auto, unfolding(crate::specs::Revisions::only_of))]
+/// The requests of a Certificate that are for one revision.
+pub struct OfRevision<'a> {
+    /// The first of them.
+    pub first: Option<&'a Shared<CertificateRequest>>,
+    /// Whether there are more.
+    pub has_more: bool,
+}
+
+fn written<'a>(requests: &'a [Shared<CertificateRequest>], digits: &str) -> OfRevision<'a>
+    ensures first { option_copied result.first ≡ find (λ request. words.is_text_of digits.now (words.revision_text request)) requests.now }
+    ensures more { result.has_more ≡ nat_lt 1 (length (filter (λ request. words.is_text_of digits.now (words.revision_text request)) requests.now)) }
+{
+    let mut rest = requests;
+    while let Some((request, others)) = rest.split_first() {
+        if is_written(request, digits) {
+            return OfRevision {
+                first: Some(request),
+                has_more: is_any_written(others, digits),
+            };
+        }
+        rest = others;
+    }
+    OfRevision {
+        first: None,
+        has_more: false,
+    }
+}
+
+/// The requests among these that are for the revision, found in one walk. An annotation is compared with the digits of the
+/// revision, and no number is read.
+pub fn requests_for(requests: &[Shared<CertificateRequest>], revision: u64) -> OfRevision<'_>
+    ensures first { option_copied result.first ≡ find (λ request. words.is_of_revision revision request) requests.now }
+    ensures more { result.has_more ≡ nat_lt 1 (length (filter (λ request. words.is_of_revision revision request) requests.now)) }
+{
+    let mut buffer = Buffer::new();
+    written(requests, buffer.format(revision))
+}
+
 fn only_of(
     requests: &[Shared<CertificateRequest>],
     revision: u64,
 ) -> Option<&Shared<CertificateRequest>>
     ensures { option_copied result ≡ words.only_of revision requests.now }
 {
-    if count_of(requests, revision) == 1 {
-        first_of(requests, revision)
-    } else {
-        None
-    }
+    let OfRevision { first, has_more } = requests_for(requests, revision);
+    if has_more { None } else { first }
 }
 
 /// The current request among those of a Certificate: the one of the revision that stands, which is 0 where the

@@ -12,4 +12,4 @@ pub use conditions::{is_approved, is_denied, is_issuing};
 pub use giving::value_in;
 pub use keys::{has_fitting_key, is_named, key_in, named_key};
 pub use owning::owned_meta;
-pub use requests::{failed_before, is_next, is_refused, is_wanted, next_count};
+pub use requests::{failed_before, is_next, is_refused, is_wanted, next_count, next_of};

@@ -1,11 +1,11 @@
 //! The requests of an issuance in progress.
 ghost use Rattle.std.specs.Option.{option_copied};
-ghost use Rattle.std.specs.Prelude.{◌≡◌, Some, length, option_map};
+ghost use Rattle.std.specs.Prelude.{◌≡◌, Some, find, length, nat_lt, option_map};
 ghost use Rattle.cmc_der.specs.Keys.{key_shown};
 ghost use Rattle.cmc_x509.specs.ReadKeys.{key_file_at};
 ghost use Rattle.cmc_rules.specs.NextRequests as words;
 
-use cmc_match::{is_of, request_answers};
+use cmc_match::{OfRevision, is_of, request_answers, requests_for};
 use cmc_meta::{Condition, ConditionKind, Tri};
 use cmc_objects::{Certificate, CertificateRequest, Shared};
 use cmc_x509::Spki;
@@ -28,6 +28,18 @@ pub fn next_count(certificate: &Certificate, requests: &[Shared<CertificateReque
         .iter()
         .filter(|request| is_next(certificate, request))
         .count()
+}
+
+/// The requests among these that are for the next revision of the Certificate, found in one walk.
+pub fn next_of<'a>(
+    certificate: &Certificate,
+    requests: &'a [Shared<CertificateRequest>],
+) -> OfRevision<'a>
+    requires { words.HasNextRevision (Some certificate.now) }
+    ensures first { option_copied result.first ≡ find (words.is_next certificate.now) requests.now }
+    ensures more { result.has_more ≡ nat_lt 1 (length (words.next_requests certificate.now requests.now)) }
+{
+    requests_for(requests, certificate.status.revision.unwrap_or(0) + 1)
 }
 
 /// Says whether the request asks for what the Certificate asks for, with the key of `file`. `public` was read of `file`.

@@ -1,4 +1,5 @@
 pub mod Last
+pub mod OneNext
 pub mod Writes
 pub mod Table
 pub mod Sound

@@ -12,10 +12,11 @@ ghost use Rattle.cmc_rules.specs.RequestManager as table;
 ghost use Rattle.cmc_rules.specs.RevisionManager as revising;
 
 use crate::choices::{Choice, build, is_nothing};
-use cmc_match::{key_fits_as_read, public_in};
+use cmc_match::{OfRevision, key_fits_as_read, public_in};
 use cmc_meta::Bytes;
 use cmc_next::{
     failed_before, is_issuing, is_next, is_refused, is_wanted, key_in, named_key, next_count,
+    next_of,
 };
 use cmc_objects::{Certificate, CertificateRequest, Secret, Shared};
 use cmc_pass::{Act, Desk, Views};
@@ -140,6 +141,42 @@ fn by_stale<'a>(
     }
 }
 
+/// What is chosen where this request alone is for the next revision.
+fn by_only<'a>(
+    certificate: &'a Certificate,
+    file: &'a Bytes,
+    public: &Option<Spki<'a>>,
+    request: &'a CertificateRequest,
+) -> Choice<'a>
+    requires { option_map key_shown public.now ≡ key_file_at file.now }
+    ensures { request_act_of result ≡ (if table.is_stale certificate.now file.now request.now then revising.delete_call request.now else Nothing) }
+{
+    if is_stale(certificate, file.as_slice(), public, request) {
+        Choice::Delete { request }
+    } else {
+        Choice::Nothing
+    }
+}
+
+/// What is chosen for a key that fits. Mostly one request at most is for the next revision.
+fn by_next<'a>(
+    certificate: &'a Certificate,
+    file: &'a Bytes,
+    public: &Option<Spki<'a>>,
+    requests: &'a [Shared<CertificateRequest>],
+) -> Choice<'a>
+    requires revision { next_words.HasNextRevision (Some certificate.now) }
+    requires public { option_map key_shown public.now ≡ key_file_at file.now }
+    ensures { request_act_of result ≡ table.by_stale certificate.now file.now requests.now (table.stale_request certificate.now file.now requests.now) }
+{
+    let OfRevision { first, has_more } = next_of(certificate, requests);
+    match first {
+        None => ask_with(certificate, file, public),
+        Some(request) if !has_more => by_only(certificate, file, public, request),
+        Some(_) => by_stale(certificate, file, public, requests),
+    }
+}
+
 fn with_file<'a>(
     certificate: &'a Certificate,
     requests: &'a [Shared<CertificateRequest>],
@@ -152,7 +189,7 @@ fn with_file<'a>(
 {
     match file {
         Some(file) if key_fits_as_read(&certificate.spec.key, file.as_slice(), public) => {
-            by_stale(certificate, file, public, requests)
+            by_next(certificate, file, public, requests)
         }
         _ => Choice::Nothing,
     }
