@@ -7,10 +7,12 @@ ghost use Rattle.cmc_model.specs.Admission.{is_taken, refusing_rule};
 ghost use Rattle.cmc_model.specs.Stored.{created, revised, restated};
 ghost use Rattle.cmc_model.specs.Replies.{IsCreated, IsUpdated, IsRestated, IsDeleted, IsGot, from_old};
 ghost use Rattle.cmc_store.specs.Answers.{IsPutOrRefused, refusal_of};
+ghost use Rattle.cmc_store.specs.Claims.{secret_named_in};
 ghost use Rattle.cmc_objects.specs.declared.call.Reply.TheVariants.{Ok as Accepted};
 
 use crate::catalogue::Catalogue;
 use crate::changes::{make, restate, revise};
+use crate::claims::secret_of;
 use cmc_admit::admit;
 use cmc_meta::Key;
 use cmc_objects::{Object, Reply};
@@ -46,13 +48,15 @@ fn refusal(old: Option<&Object>, new: &Object, status: bool, taken: bool) -> Opt
     }
 }
 
-/// Puts the object under the key, as this version.
+/// Puts the object under the key, as this version, where what exists there names the Secret `old`.
 fn write(
     catalogue: &mut Catalogue,
+    old: &Option<Key>,
     key: Key,
     object: Object,
     version: u64,
 ) -> Result<Replied, AllocError>
+    requires old { old.now ≡ secret_named_in (object_at catalogue.old key) }
     requires key { key_of object ≡ key }
     requires free { is_taken catalogue.old object ≡ false }
     ensures after { IfOk result (λ r. catalogue.new ≡ with_object catalogue.old key object) }
@@ -65,7 +69,7 @@ fn write(
     };
     let told = key.copy()?;
     let copy = object.copy()?;
-    catalogue.put(key, object)?;
+    catalogue.put(old, key, object)?;
     Ok(Replied {
         reply,
         key: Some(told),
@@ -94,7 +98,7 @@ pub fn create(
             Some(replied) => Ok(replied),
             None => {
                 let made = make(alloc, object, accepted + 1, now)?;
-                write(catalogue, key, made, accepted + 1)
+                write(catalogue, &None, key, made, accepted + 1)
             }
         },
     }
@@ -124,7 +128,10 @@ pub fn update(
         Some(replied) => Ok(replied),
         None => match revise(alloc, old, object, accepted + 1)? {
             None => Ok(refused(Reply::Unchanged { version: have })),
-            Some(new) => write(catalogue, key, new, accepted + 1),
+            Some(new) => {
+                let secret = secret_of(old)?;
+                write(catalogue, &secret, key, new, accepted + 1)
+            }
         },
     }
 }
@@ -153,7 +160,10 @@ pub fn update_status(
         Some(replied) => Ok(replied),
         None => match restate(alloc, old, object, accepted + 1)? {
             None => Ok(refused(Reply::Unchanged { version: have })),
-            Some(new) => write(catalogue, key, new, accepted + 1),
+            Some(new) => {
+                let secret = secret_of(old)?;
+                write(catalogue, &secret, key, new, accepted + 1)
+            }
         },
     }
 }

@@ -73,19 +73,20 @@ impl Catalogue {
         }
     }
 
-    /// Puts the object under its key, in place of an older one; where memory runs out all is as it was.
-    pub fn put(&mut self, key: Key, object: Object) -> Result<(), AllocError>
+    /// Puts the object under its key, in place of an older one, of which `old` is the Secret that it named; where memory
+    /// runs out all is as it was.
+    pub fn put(&mut self, old: &Option<Key>, key: Key, object: Object) -> Result<(), AllocError>
+        requires old { old.now ≡ spec.secret_named_in (object_at self.old key) }
         requires key { key_of object ≡ key }
         requires free { is_taken self.old object ≡ false }
         ensures ok { OnOk result (self.new ≡ with_object self.old key object) }
         ensures err { OnErr result (self.new ≡ self.old) }
     {
-        let old = secret_at(&self.shelf, &key)?;
         let new = secret_of(&object)?;
-        if is_same_secret(&old, &new) {
+        if is_same_secret(old, &new) {
             self.shelf.put(key, object)
         } else {
-            put_moved(&mut self.shelf, &mut self.claims, key, object, &old)
+            put_moved(&mut self.shelf, &mut self.claims, key, object, old)
         }
     }
 

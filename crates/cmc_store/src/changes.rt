@@ -1,5 +1,5 @@
 // What a create, an update and a status update make of objects.
-ghost use Rattle.std.specs.Prelude.{◌≡◌, IfOk};
+ghost use Rattle.std.specs.Prelude.{◌≡◌, ◌↔◌, IfOk, IsTrue};
 ghost use Rattle.cmc_model.specs.Stored.{new_meta, created, merged_meta, updated, with_status, generation_after, revised, restated};
 ghost use Rattle.cmc_store.specs.Changes.{IsRevision, IsRestatement};
 
@@ -115,29 +115,24 @@ fn merge(alloc: Global, old: &Object, new: &Object) -> Result<Object, AllocError
     }
 }
 
-/// The object after a status update, under its old version.
+/// The same metadata under this version.
+fn under_version(meta: &ObjectMeta, version: u64) -> Result<ObjectMeta, AllocError>
+    ensures { IfOk result (λ m. m ≡ record meta.now { version = version }) }
+{
+    let mut copy = meta.copy()?;
+    copy.version = version;
+    Ok(copy)
+}
+
+/// Whether a status update with the new object leaves the old one as it is.
 #[tactic(auto, unfolding(cmc_model::specs::Stored::with_status))]
-fn merge_status(alloc: Global, old: &Object, new: &Object) -> Result<Object, AllocError>
-    ensures { IfOk result (λ o. o ≡ with_status old.now new.now) }
+fn keeps_status(old: &Object, new: &Object) -> bool
+    ensures { IsTrue result ↔ (with_status old.now new.now ≡ old.now) }
 {
     match (old, new) {
-        (Object::Cert(a), Object::Cert(b)) => Object::of_certificate(
-            alloc,
-            Certificate {
-                meta: a.meta.copy()?,
-                spec: a.spec.copy()?,
-                status: b.status.copy()?,
-            },
-        ),
-        (Object::Request(r), Object::Request(q)) => Object::of_request(
-            alloc,
-            CertificateRequest {
-                meta: r.meta.copy()?,
-                spec: r.spec.copy()?,
-                status: q.status.copy()?,
-            },
-        ),
-        _ => old.copy(),
+        (Object::Cert(a), Object::Cert(b)) => a.status.same(&b.status),
+        (Object::Request(a), Object::Request(b)) => a.status.same(&b.status),
+        _ => true,
     }
 }
 
@@ -180,13 +175,10 @@ pub fn restate(
 ) -> Result<Option<Object>, AllocError>
     ensures { IfOk result (λ o. IsRestatement version old.now object.now o) }
 {
-    let new = merge_status(alloc, old, object)?;
-    if new.same(old) {
-        Ok(None)
-    } else {
-        let generation = old.meta().generation;
-        Ok(Some(new.numbered(alloc, version, generation)?))
+    if keeps_status(old, object) {
+        return Ok(None);
     }
+    Ok(Some(restatement(alloc, old, object, version)?))
 }
 
 /// What an accepted update of the object that exists stores as this version, whether it changes the object or not.
@@ -206,6 +198,7 @@ pub fn revision(
 
 /// What an accepted status update of the object that exists stores as this version, whether it changes the object
 /// or not. `Err` where there is no memory.
+#[tactic(auto, unfolding(cmc_model::specs::Stored::with_status, cmc_objects::specs::Objects::numbered))]
 pub fn restatement(
     alloc: Global,
     old: &Object,
@@ -214,7 +207,26 @@ pub fn restatement(
 ) -> Result<Object, AllocError>
     ensures { IfOk result (λ o. o ≡ restated version old.now object.now) }
 {
-    let new = merge_status(alloc, old, object)?;
-    let generation = old.meta().generation;
-    new.numbered(alloc, version, generation)
+    match (old, object) {
+        (Object::Cert(a), Object::Cert(b)) => Object::of_certificate(
+            alloc,
+            Certificate {
+                meta: under_version(&a.meta, version)?,
+                spec: a.spec.copy()?,
+                status: b.status.copy()?,
+            },
+        ),
+        (Object::Request(r), Object::Request(q)) => Object::of_request(
+            alloc,
+            CertificateRequest {
+                meta: under_version(&r.meta, version)?,
+                spec: r.spec.copy()?,
+                status: q.status.copy()?,
+            },
+        ),
+        _ => {
+            let generation = old.meta().generation;
+            old.copy()?.numbered(alloc, version, generation)
+        }
+    }
 }

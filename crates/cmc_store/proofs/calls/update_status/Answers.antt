@@ -9,8 +9,8 @@ use Rattle.cmc_model.proofs.Stored.{key_of-restated}
 use Rattle.cmc_store.proofs.Right.{not_refused, refused_answer, restated_reply, reply_of_write}
 use Rattle.cmc_store.proofs.calls.update_status.Goals as goal
 
-pub returns-in-Some-2-clause-reply : goal.returns-in-Some-2-clause-reply
-returns-in-Some-2-clause-reply c =
+pub returns-in_ok-secret-in-Some-2-clause-reply : goal.returns-in_ok-secret-in-Some-2-clause-reply
+returns-in_ok-secret-in-Some-2-clause-reply c =
     reply_of_write _ _ (λ reply. IsRestated c.args.accepted c.args.object.now c.args.named (object_at c.args.catalogue.now (key_of c.args.object.now)) reply) c.write.ensures.told
     (restated_reply c.args.accepted c.args.object.now c.in-Some.old.now c.args.named (object_at c.args.catalogue.now (key_of c.args.object.now)) c.in_ok-key.key.name
     (ap (object_at c.args.catalogue.now) (sym c.in_ok-key.ensures) ∙ sym c.in-Some.ensures.object) (cc (c.if-have-named.false, c.meta.ensures)) (not_refused _ c.in-None.ensures) (rw c.in-Some-2.is at c.in_ok-restate-in-None.ensures).0 (ap (λ (k : Key). k.name) c.in_ok-key.ensures))
