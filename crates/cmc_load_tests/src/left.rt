@@ -9,20 +9,18 @@ ghost use Rattle.cmc_rules.specs.Views.{present_views};
 ghost use Rattle.cmc_model.specs.Histories.{moment};
 ghost use Rattle.cmc_safety.specs.MayAct.{MayAct};
 ghost use Rattle.cmc_kernel.specs.Kept.{on};
-ghost use Rattle.cmc_waits.specs.Waits.{IsAllThatExists};
-ghost use Rattle.cmc_caches.specs.Posted.{caches_of};
 ghost use Rattle.cmc_load_laws.specs.Measure as words;
 ghost use Rattle.cmc_load_tests.specs.Left.{desk_with, request_alone};
 ghost use Rattle.cmc_load_tests.specs.Left as left;
 
 use crate::parts::{is_target_written, key_part, request_part, weight};
-use cmc_caches::Caches;
 use cmc_kernel::Kernel;
 use cmc_meta::Key;
 use cmc_moves::{act_of, is_idle_of, let_go};
 use cmc_next::is_issuing;
-use cmc_objects::{Certificate, CertificateRequest, Material, Positions, Role, Rules, Shared};
+use cmc_objects::{Certificate, CertificateRequest, Material, Role, Rules, Shared};
 use cmc_pass::{Act, Desk, Views};
+use cmc_waits::all_that_exists;
 use std::alloc::{AllocError, Global};
 
 /// A desk with these rules, of a scenario that says nothing of keys and issuers.
@@ -178,21 +176,6 @@ fn measure(alloc: Global, desk: &Desk, now: i64, seen: &Views) -> Result<u128, A
 }
 
 // ---- all that exists
-
-/// Tells the issuing controller of all writes, on caches of its own: what it sees is all that exists.
-fn all_that_exists(alloc: Global, kernel: &Kernel) -> Result<Caches, AllocError>
-    ensures { IfOk result (λ all. on IsAllThatExists kernel.now (caches_of all Issuing)) }
-{
-    let mut all = kernel.caches().same_writes(alloc)?;
-    let newest = all.log().accepted();
-    let at = Positions {
-        certificates: newest,
-        requests: newest,
-        secrets: newest,
-    };
-    all.start(alloc, Role::Issuing, at)?;
-    Ok(all)
-}
 
 /// What there is to see of the key.
 fn present(alloc: Global, kernel: &Kernel, key: &Key) -> Result<Views, AllocError>

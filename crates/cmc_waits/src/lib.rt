@@ -7,3 +7,4 @@ mod waits;
 
 pub use laws::each_wait_is_named;
 pub use summaries::summary;
+pub use waits::all_that_exists;

@@ -1,6 +1,6 @@
 //! What exists, and what Certificates wait for.
 ghost use Rattle.std.specs.List.{list_any};
-ghost use Rattle.std.specs.Prelude.{◌≡◌, ◌&&◌, ◌==◌, IfOk, count_by};
+ghost use Rattle.std.specs.Prelude.{◌≡◌, ◌&&◌, ◌==◌, IfOk, IfSome, count_by};
 ghost use Rattle.cmc_meta.specs.ConditionLists.{condition_rank, tri_eq};
 ghost use Rattle.cmc_meta.specs.declared.conditions.ConditionKind.TheVariants.{Ready};
 ghost use Rattle.cmc_meta.specs.declared.conditions.Tri.TheVariants.{True};
@@ -10,7 +10,7 @@ ghost use Rattle.cmc_caches.specs.Posted.{caches_of};
 ghost use Rattle.cmc_kernel.specs.Kept.{on};
 ghost use Rattle.cmc_waits.specs.Waits.{IsAllThatExists, is_stopped, waits_among, summary_among, summary_at};
 
-use crate::waits::{all_that_stands, is_stopped, wait_at};
+use crate::waits::{all_that_exists, is_stopped, wait_at};
 use cmc_caches::Caches;
 use cmc_kernel::Kernel;
 use cmc_meta::{Condition, ConditionKind, Key, Tri};
@@ -99,16 +99,16 @@ fn has_waiting(objects: &Objects) -> bool
     objects.iter().any(|(_, object)| counts_as_waiting(object))
 }
 
-/// The Certificates that are not Ready, with what they wait for, where `all` is all that exists.
+/// The Certificates that are not Ready, with what they wait for, where `all`, if it is given, is all that exists.
 fn waiting_by(
     alloc: Global,
     kernel: &Kernel,
     stopped: bool,
-    all: &Caches,
+    all: &Option<Caches>,
     objects: &Objects,
 ) -> Result<Waits, AllocError>
     requires stopped { stopped ≡ on is_stopped kernel.now }
-    requires all { on IsAllThatExists kernel.now (caches_of all.now Issuing) }
+    requires all { IfSome all.now (λ given. on IsAllThatExists kernel.now (caches_of given Issuing)) }
     ensures { IfOk result (λ w. w ≡ on waits_among kernel.now objects.now.entries) }
 {
     let mut waiting = Waits::new(alloc);
@@ -123,7 +123,17 @@ fn waiting_by(
     Ok(waiting)
 }
 
-/// The Certificates that are not Ready, with what they wait for. What stands is listed only where there is one.
+/// All that exists, where waits depend on it: while some role does not run, or some informer is held, none does.
+fn all_to_see(alloc: Global, kernel: &Kernel, stopped: bool) -> Result<Option<Caches>, AllocError>
+    ensures { IfOk result (λ all. IfSome all (λ given. on IsAllThatExists kernel.now (caches_of given Issuing))) }
+{
+    if stopped {
+        return Ok(None);
+    }
+    Ok(Some(all_that_exists(alloc, kernel)?))
+}
+
+/// The Certificates that are not Ready, with what they wait for. What exists is gone over only where there is one.
 fn waiting(
     alloc: Global,
     kernel: &Kernel,
@@ -136,7 +146,7 @@ fn waiting(
     if !has_waiting(objects) {
         return Ok(Waits::new(alloc));
     }
-    let all = all_that_stands(alloc, kernel)?;
+    let all = all_to_see(alloc, kernel, stopped)?;
     waiting_by(alloc, kernel, stopped, &all, objects)
 }
 

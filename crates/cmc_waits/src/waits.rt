@@ -1,7 +1,7 @@
 //! What Certificates that are not Ready wait for.
 ghost use Rattle.std.specs.List.{list_any};
 ghost use Rattle.std.specs.Option.{option_copied};
-ghost use Rattle.std.specs.Prelude.{◌≡◌, false, IfOk};
+ghost use Rattle.std.specs.Prelude.{◌≡◌, false, IfOk, IfSome};
 ghost use Rattle.cmc_model.specs.Histories as histories;
 ghost use Rattle.cmc_objects.specs.declared.role.Role.TheVariants.{Issuing};
 ghost use Rattle.cmc_rules.specs.Dates.{HasDatedFailure, IsDatedOption};
@@ -166,8 +166,9 @@ pub(crate) fn is_stopped(kernel: &Kernel) -> bool
 
 // ---- a Certificate, by all that exists
 
-/// Tells a role of all writes, on caches of their own: what it sees is all that exists. It goes over all writes.
-pub(crate) fn all_that_stands(alloc: Global, kernel: &Kernel) -> Result<Caches, AllocError>
+/// Caches of their own, of which the issuing controller's row is told of all writes: what it sees is all that exists. It goes
+/// over all writes; `Err` where there is no memory.
+pub fn all_that_exists(alloc: Global, kernel: &Kernel) -> Result<Caches, AllocError>
     ensures { IfOk result (λ all. on words.IsAllThatExists kernel.now (caches_of all Issuing)) }
 {
     let mut all = kernel.caches().same_writes(alloc)?;
@@ -209,22 +210,35 @@ fn wait_seen(
     Ok(wait_in(kernel.moment(), &seen))
 }
 
+/// The same, where all that exists is not given. Never inlined, since what it builds takes much room.
+#[inline(never)]
+fn wait_seen_anew(alloc: Global, kernel: &Kernel, key: &Key) -> Result<Option<WaitName>, AllocError>
+    ensures { IfOk result (λ wait. wait ≡ words.wait_in (on histories.moment kernel.now) (on viewing.present_views kernel.now Issuing key.now)) }
+{
+    let all = all_that_exists(alloc, kernel)?;
+    wait_seen(alloc, kernel, &all, key)
+}
+
 /// What the Certificate of `key` waits for, where `all` is all that exists and `stopped` says whether some role does not
 /// run or some informer is held: for that, or else for the end of its back-off, a next key, a verdict on its next
-/// request, the name of its Secret, or its issuer, the first of these that is so. `None` where none is so.
+/// request, the name of its Secret, or its issuer, the first of these that is so. `None` where none is so. All that exists
+/// is gone over anew where it is not given and is looked at.
 pub(crate) fn wait_at(
     alloc: Global,
     kernel: &Kernel,
     stopped: bool,
-    all: &Caches,
+    all: &Option<Caches>,
     key: &Key,
 ) -> Result<Option<WaitName>, AllocError>
     requires stopped { stopped ≡ on words.is_stopped kernel.now }
-    requires all { on words.IsAllThatExists kernel.now (caches_of all.now Issuing) }
+    requires all { IfSome all.now (λ given. on words.IsAllThatExists kernel.now (caches_of given Issuing)) }
     ensures { IfOk result (λ wait. wait ≡ on words.wait_at kernel.now key.now) }
 {
     if stopped {
         return Ok(Some(WaitName::Stopped));
     }
-    wait_seen(alloc, kernel, all, key)
+    match all {
+        Some(all) => wait_seen(alloc, kernel, all, key),
+        None => wait_seen_anew(alloc, kernel, key),
+    }
 }

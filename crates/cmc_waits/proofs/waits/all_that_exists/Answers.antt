@@ -1,12 +1,11 @@
-use Rattle.std.proofs.Common.{◌≡◌, ◌∙◌, ◌≤◌, ℕ, List, ap, arith, length, subst, sym}
-use Rattle.cmc_objects.specs.declared.entry.Positions.{Positions}
+use Rattle.std.proofs.Common.{◌≡◌, ◌∙◌, ℕ, List, ap, arith, length}
 use Rattle.cmc_objects.specs.declared.role.Role.TheVariants.{Issuing}
 use Rattle.cmc_model.specs.Writes.{writes}
 use Rattle.cmc_model.specs.declared.write.Write.{Write}
 use Rattle.cmc_caches.specs.Posted.{told_of}
 use Rattle.cmc_caches.specs.Told.{caches_at}
 use Rattle.cmc_kernel.specs.Kept.{on}
-use Rattle.cmc_waits.proofs.waits.all_that_stands.Goals as goal
+use Rattle.cmc_waits.proofs.waits.all_that_exists.Goals as goal
 
 pub start-requires-clause-certificates : goal.start-requires-clause-certificates
 start-requires-clause-certificates c = let all = c.accepted-newest.ensures ∙ ap (λ (ws : List Write). length ws) c.log.ensures.writes in omega (arith, all)
