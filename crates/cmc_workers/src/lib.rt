@@ -1,6 +1,7 @@
 //! Runs by many threads: each takes passes of one world under a lock, and does the work that passes ask for outside of it.
 #![tactic(auto)]
 
+mod crew;
 mod errands;
 mod rounds;
 mod run;

@@ -14,6 +14,7 @@ ghost use Rattle.cmc_workers.specs.Drives as spec;
 ghost use Rattle.cmc_workers.specs.Drives.{IsErrand};
 ghost use Rattle.cmc_workers.specs.Findings.{IsFound, IsWorkOpening};
 
+use crate::crew::Crew;
 use crate::errands::{Answer, Errand, Outcome, Taken, Task};
 use crate::rounds::{ASKING_NOBODY, Found, ROUND, Round};
 use cmc_kernel::{Decided, Move, Stepped, decides_alone};
@@ -34,10 +35,8 @@ pub(crate) struct Shared {
     aside: Round,
     /// Which role is to be told next of what it was not told.
     wanted: Role,
-    /// How many workers there are.
-    workers: u32,
-    /// How many of them are away with a question.
-    away: u32,
+    /// Where the workers are.
+    pub crew: Crew,
     /// Whether all is over for the threads.
     pub over: bool,
 }
@@ -79,8 +78,7 @@ impl Shared {
             round: Round::new(),
             aside: Round::new(),
             wanted: Role::Trigger,
-            workers,
-            away: 0,
+            crew: Crew::new(workers),
             over: false,
         }
     }
@@ -138,7 +136,7 @@ impl Shared {
     {
         let errand = self.question_of(taken)?;
         if errand.is_some() {
-            self.away = self.away.saturating_add(1);
+            self.crew.ask();
         }
         Ok(errand)
     }
@@ -212,9 +210,10 @@ impl Shared {
         ensures scenario { self.new.world.scenario ≡ self.old.world.scenario }
     {
         let (taken, answer) = outcome.into_parts();
+        self.crew.come_back();
         match answer {
             Answer::Value(given) => {
-                self.away = self.away.saturating_sub(1);
+                self.crew.answer();
                 self.give(alloc, taken, given)
             }
             Answer::Decision(decided) => self.decide(alloc, taken, decided),
@@ -279,17 +278,12 @@ impl Shared {
         }
     }
 
-    /// Whether all other workers are away with questions.
-    fn is_alone(&self) -> bool {
-        self.away > 0 && self.away.saturating_add(1) >= self.workers
-    }
-
     /// Where the next pass may begin, or who has to be told of something first.
     fn next_turn(&mut self, alloc: Global) -> Result<Found, AllocError>
         ensures found { IfOk result (IsFound self.new.world) }
         ensures same { self.new.world ≡ self.old.world }
     {
-        if self.is_alone() {
+        if self.crew.is_alone() {
             match self.aside.next(alloc, &mut self.world, &ASKING_NOBODY)? {
                 Found::Nothing => {}
                 found => return Ok(found),

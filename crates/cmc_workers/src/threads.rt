@@ -3,7 +3,8 @@
 //! They meet at one lock, and each sort sleeps at a condition variable of its own, so that whoever moved wakes one thread
 //! that may go on with it, and not all. They wake each other in a ring: a worker or the script that moved wakes the thread
 //! that delivers, this wakes a worker, and a worker that finds nothing to do wakes the script. The script wakes nobody
-//! unless it moved, so idle threads do not wake each other for ever. What is handed out (keys, signatures, issuers'
+//! unless it moved, so idle threads do not wake each other for ever. A worker that goes away wakes another one where all the
+//! others sleep or are away too. What is handed out (keys, signatures, issuers'
 //! answers, judgements) is made outside the lock, after the gate, and there issuing and the request manager decide, which
 //! read certificates and keys for it.
 ghost use Rattle.std.specs.Prelude.{IfOk, IfSome};
@@ -78,6 +79,13 @@ impl Hall {
         self.to_perform.notify_all();
     }
 
+    /// Wakes a worker, where one is called.
+    fn call(&self, calls: bool) {
+        if calls {
+            self.to_work.notify_one();
+        }
+    }
+
     /// Ends the work of all threads.
     fn stop<R: Wait>(&self, rt: &R) {
         self.shared.lock(rt).over = true;
@@ -110,13 +118,16 @@ impl Hall {
             let before = shared.entries();
             if let Some(errand) = shared.take(alloc)? {
                 // This thread may stay away for long, and others may find more to do.
+                let calls = shared.crew.leave();
                 drop(shared);
-                self.to_work.notify_one();
+                self.call(calls);
                 return Ok(Some(errand));
             }
             if !shared.over {
                 self.pass_on(alloc, &shared, before < shared.entries())?;
+                shared.crew.fall_asleep();
                 shared = self.to_work.wait(rt, shared);
+                shared.crew.wake();
             }
         }
         unreachable!()
@@ -134,8 +145,9 @@ impl Hall {
     {
         let mut shared = self.shared.lock(rt);
         if let Some(errand) = shared.come_back(alloc, outcome)? {
+            let calls = shared.crew.leave();
             drop(shared);
-            self.to_work.notify_one();
+            self.call(calls);
             return Ok(Some(errand));
         }
         self.pass_on(alloc, &shared, true)?;
@@ -206,7 +218,8 @@ impl Hall {
                 self.wake_all();
                 return Ok(());
             }
-            self.to_work.notify_one();
+            let calls = shared.crew.call();
+            self.call(calls);
             shared = self.to_deliver.wait(rt, shared);
         }
         unreachable!()
