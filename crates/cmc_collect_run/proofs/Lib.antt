@@ -1,3 +1,4 @@
+pub mod OneMore
 pub mod Moves
 pub mod Loop
 pub mod PrintLaws

@@ -2,14 +2,14 @@
 use Rattle.std.proofs.Common.{◌≡◌, ℕ, ℤ, ◌<◌, ◌≤◌, Bool, true, false, length, Option, Some, None, refl, sym, subst, arith}
 use Rattle.std.proofs.lemmas.Bool.Decides.{nat_tests}
 use Rattle.std.specs.Prelude.{if◌then◌else◌, nat_lt}
-use Rattle.cmc_collector.specs.declared.moves.CollectLack.{CollectLack}
-use Rattle.cmc_collector.specs.declared.moves.CollectMove.{CollectMove}
-use Rattle.cmc_collector.specs.declared.moves.Collected.{Collected}
-use Rattle.cmc_collector.specs.declared.moves.Collected.TheVariants.{Done, NotNow, Spent}
+use Rattle.cmc_collect_moves.specs.declared.moves.CollectLack.{CollectLack}
+use Rattle.cmc_collect_moves.specs.declared.moves.CollectMove.{CollectMove}
+use Rattle.cmc_collect_moves.specs.declared.moves.Collected.{Collected}
+use Rattle.cmc_collect_moves.specs.declared.moves.Collected.TheVariants.{Done, NotNow, Spent}
 use Rattle.cmc_collector.specs.Moves.{LeavesCollected, answer, answer_of, lack}
 use Rattle.cmc_collector.specs.Replays.{Collecting, on}
 use Rattle.cmc_collector.specs.Settles.{EndsAs, Settles}
-use Rattle.cmc_collect_form.specs.declared.script.CollectStep.TheVariants.{Settle}
+use Rattle.cmc_collect_run.specs.declared.script.CollectStep.TheVariants.{Settle}
 use Rattle.cmc_collect_run.specs.Runs.{IsMoved, IsStepped, MovedWith, collect_goes_on}
 
 abbrev IsMovedWith : Option CollectLack → Bool → ℤ → CollectMove → Collecting → Collecting → Type 0

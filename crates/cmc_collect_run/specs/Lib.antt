@@ -1,3 +1,5 @@
+pub mod Steps
+pub mod Collections
 pub mod Runs
 pub mod Printed
 pub mod Answers

@@ -8,18 +8,18 @@ use Rattle.cmc_model.specs.Objects.{object_at}
 use Rattle.cmc_rules.specs.UserSteps.{apply_call}
 use Rattle.cmc_collector.specs.declared.entry.CollectEntry.{CollectEntry}
 use Rattle.cmc_collector.specs.declared.entry.Moment.{Moment}
-use Rattle.cmc_collector.specs.declared.moves.CollectLack.{CollectLack}
-use Rattle.cmc_collector.specs.declared.moves.CollectMove.{CollectMove}
-use Rattle.cmc_collector.specs.declared.moves.CollectMove.TheVariants as moves
-use Rattle.cmc_collector.specs.declared.moves.Collected.{Collected}
-use Rattle.cmc_collector.specs.declared.moves.Collected.TheVariants.{Done, NotNow, Spent}
+use Rattle.cmc_collect_moves.specs.declared.moves.CollectLack.{CollectLack}
+use Rattle.cmc_collect_moves.specs.declared.moves.CollectMove.{CollectMove}
+use Rattle.cmc_collect_moves.specs.declared.moves.CollectMove.TheVariants as moves
+use Rattle.cmc_collect_moves.specs.declared.moves.Collected.{Collected}
+use Rattle.cmc_collect_moves.specs.declared.moves.Collected.TheVariants.{Done, NotNow, Spent}
 use Rattle.cmc_collector.specs.Moves.{IsEntry, lack, with_entry}
 use Rattle.cmc_collector.specs.Replays.{Collecting, on, stored_objects}
 use Rattle.cmc_collector.specs.Settles.{IsSettled, Settles}
-use Rattle.cmc_collect_form.specs.Steps.{moment_after}
-use Rattle.cmc_collect_form.specs.declared.script.CollectScript.{CollectScript}
-use Rattle.cmc_collect_form.specs.declared.script.CollectStep.{CollectStep}
-use Rattle.cmc_collect_form.specs.declared.script.CollectStep.TheVariants.{Apply, Delete, Tick, Deliver, Examine, Settle}
+use Rattle.cmc_collect_run.specs.Steps.{moment_after}
+use Rattle.cmc_collect_run.specs.declared.script.CollectScript.{CollectScript}
+use Rattle.cmc_collect_run.specs.declared.script.CollectStep.{CollectStep}
+use Rattle.cmc_collect_run.specs.declared.script.CollectStep.TheVariants.{Apply, Delete, Tick, Deliver, Examine, Settle}
 
 -- the collection before the first step
 abbrev pub first_collecting : CollectScript → Collecting

@@ -30,8 +30,8 @@ use Rattle.cmc_collector.specs.declared.entry.CollectEntry.{CollectEntry}
 use Rattle.cmc_collector.specs.declared.entry.CollectEntry.TheVariants as entries
 use Rattle.cmc_collector.specs.declared.entry.Moment.{Moment}
 use Rattle.cmc_collector.specs.declared.examination.Examination.{Examination}
-use Rattle.cmc_collector.specs.declared.moves.CollectMove.TheVariants.{User, Deliver, Examine}
-use Rattle.cmc_collector.specs.declared.moves.CollectLack.TheVariants.{NoOrphan}
+use Rattle.cmc_collect_moves.specs.declared.moves.CollectMove.TheVariants.{User, Deliver, Examine}
+use Rattle.cmc_collect_moves.specs.declared.moves.CollectLack.TheVariants.{NoOrphan}
 use Rattle.cmc_collector.specs.Caches.{AreCachesAt, Informers, IsInformerOf, Moves, informer_object, informer_of, position_in}
 use Rattle.cmc_collector.specs.CachePositions.{cached_object, has_any_owner, position}
 use Rattle.cmc_collector.specs.Examinations.{current, examination, is_to_examine, examined_after, looked_from, next_owner}

@@ -32,10 +32,10 @@ use Rattle.cmc_collector.specs.declared.entry.CollectEntry.{CollectEntry}
 use Rattle.cmc_collector.specs.declared.entry.CollectEntry.TheVariants as entries
 use Rattle.cmc_collector.specs.declared.entry.Moment.{Moment}
 use Rattle.cmc_collector.specs.declared.examination.Examination.{Examination}
-use Rattle.cmc_collector.specs.declared.moves.CollectMove.{CollectMove}
-use Rattle.cmc_collector.specs.declared.moves.CollectMove.TheVariants.{User, Deliver, Examine}
-use Rattle.cmc_collector.specs.declared.moves.CollectLack.{CollectLack}
-use Rattle.cmc_collector.specs.declared.moves.CollectLack.TheVariants.{Current, NotAWrite}
+use Rattle.cmc_collect_moves.specs.declared.moves.CollectMove.{CollectMove}
+use Rattle.cmc_collect_moves.specs.declared.moves.CollectMove.TheVariants.{User, Deliver, Examine}
+use Rattle.cmc_collect_moves.specs.declared.moves.CollectLack.{CollectLack}
+use Rattle.cmc_collect_moves.specs.declared.moves.CollectLack.TheVariants.{Current, NotAWrite}
 use Rattle.cmc_collector.specs.CachePositions.{are_gone, cached_object, has_owners, is_gone, is_orphan, is_orphan_in, position}
 use Rattle.cmc_collector.specs.Examinations.{IsExamined, current, current_of, examination, finds_owner, is_unavailable, examined_after, looked_from, next_owner}
 use Rattle.cmc_collector.specs.Moves.{IsStoreReply, IsCollected, IsDelete, IsEntry, IsExamineOf, IsOwnerLook, is_watch_event, is_of_kind, lack, lack_of_delivery, newest}

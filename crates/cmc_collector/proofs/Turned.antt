@@ -2,9 +2,9 @@
 use Rattle.std.proofs.Common.{◌≡◌, ℤ, Bool, true, false, Option, Some, refl, sym, subst, ◌∙◌}
 use Rattle.std.specs.Prelude.{IsTrue, ◌↔◌}
 use Rattle.cmc_meta.specs.declared.key.Key.{Key}
-use Rattle.cmc_collector.specs.declared.moves.CollectMove.{CollectMove}
-use Rattle.cmc_collector.specs.declared.moves.Collected.{Collected}
-use Rattle.cmc_collector.specs.declared.moves.Collected.TheVariants.{Done, NotNow, Spent}
+use Rattle.cmc_collect_moves.specs.declared.moves.CollectMove.{CollectMove}
+use Rattle.cmc_collect_moves.specs.declared.moves.Collected.{Collected}
+use Rattle.cmc_collect_moves.specs.declared.moves.Collected.TheVariants.{Done, NotNow, Spent}
 use Rattle.cmc_collector.specs.Moves.{LeavesCollected}
 use Rattle.cmc_collector.specs.Owners.{IsGoodCollect}
 use Rattle.cmc_collector.specs.Replays.{Collecting, on, played, setting}

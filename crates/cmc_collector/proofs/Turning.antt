@@ -9,12 +9,12 @@ use Rattle.cmc_model.specs.declared.write.Write.{Write}
 use Rattle.cmc_model.specs.Histories.{Setting}
 use Rattle.cmc_model.specs.Writes.{kind_eq, last_of_kind, write_at, writes}
 use Rattle.cmc_collector.specs.declared.entry.Moment.{Moment}
-use Rattle.cmc_collector.specs.declared.moves.CollectMove.{CollectMove}
-use Rattle.cmc_collector.specs.declared.moves.CollectMove.TheVariants.{User, Deliver, Examine}
-use Rattle.cmc_collector.specs.declared.moves.CollectLack.{CollectLack}
-use Rattle.cmc_collector.specs.declared.moves.CollectLack.TheVariants.{NoOrphan, Current, NotAWrite}
-use Rattle.cmc_collector.specs.declared.moves.Collected.{Collected}
-use Rattle.cmc_collector.specs.declared.moves.Collected.TheVariants.{Done, Spent}
+use Rattle.cmc_collect_moves.specs.declared.moves.CollectMove.{CollectMove}
+use Rattle.cmc_collect_moves.specs.declared.moves.CollectMove.TheVariants.{User, Deliver, Examine}
+use Rattle.cmc_collect_moves.specs.declared.moves.CollectLack.{CollectLack}
+use Rattle.cmc_collect_moves.specs.declared.moves.CollectLack.TheVariants.{NoOrphan, Current, NotAWrite}
+use Rattle.cmc_collect_moves.specs.declared.moves.Collected.{Collected}
+use Rattle.cmc_collect_moves.specs.declared.moves.Collected.TheVariants.{Done, Spent}
 use Rattle.cmc_collector.specs.CachePositions.{position}
 use Rattle.cmc_collector.specs.Examinations.{is_to_examine}
 use Rattle.cmc_collector.specs.Moves.{answer, answer_of, is_watch_event, is_of_kind, lack, lack_of_delivery, newest}

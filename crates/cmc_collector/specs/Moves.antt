@@ -15,12 +15,12 @@ use Rattle.cmc_collector.specs.declared.entry.CollectEntry.{CollectEntry}
 use Rattle.cmc_collector.specs.declared.entry.CollectEntry.TheVariants as entries
 use Rattle.cmc_collector.specs.declared.entry.Moment.{Moment}
 use Rattle.cmc_collector.specs.declared.examination.Examination.{Examination}
-use Rattle.cmc_collector.specs.declared.moves.CollectMove.{CollectMove}
-use Rattle.cmc_collector.specs.declared.moves.CollectMove.TheVariants.{User, Deliver, Examine}
-use Rattle.cmc_collector.specs.declared.moves.CollectLack.{CollectLack}
-use Rattle.cmc_collector.specs.declared.moves.CollectLack.TheVariants.{Current, NotAWrite, NoOrphan}
-use Rattle.cmc_collector.specs.declared.moves.Collected.{Collected}
-use Rattle.cmc_collector.specs.declared.moves.Collected.TheVariants.{Done, NotNow, Spent}
+use Rattle.cmc_collect_moves.specs.declared.moves.CollectMove.{CollectMove}
+use Rattle.cmc_collect_moves.specs.declared.moves.CollectMove.TheVariants.{User, Deliver, Examine}
+use Rattle.cmc_collect_moves.specs.declared.moves.CollectLack.{CollectLack}
+use Rattle.cmc_collect_moves.specs.declared.moves.CollectLack.TheVariants.{Current, NotAWrite, NoOrphan}
+use Rattle.cmc_collect_moves.specs.declared.moves.Collected.{Collected}
+use Rattle.cmc_collect_moves.specs.declared.moves.Collected.TheVariants.{Done, NotNow, Spent}
 use Rattle.cmc_collector.specs.CachePositions.{position}
 use Rattle.cmc_collector.specs.Examinations.{current, is_to_examine, next_owner}
 use Rattle.cmc_collector.specs.Replays.{Collecting, on, owner_key, played}

@@ -1,7 +1,5 @@
 -- The calls of a collection, read as a history of calls.
 use Rattle.std.specs.Prelude.{ℕ, ℤ, pos, List, [], ◌∷◌, Some}
-use Rattle.cmc_meta.specs.declared.key.Key.{Key}
-use Rattle.cmc_meta.specs.declared.owners.OwnerRef.{OwnerRef}
 use Rattle.cmc_objects.specs.declared.call.Call.{Call}
 use Rattle.cmc_objects.specs.declared.call.Call.TheVariants as calls
 use Rattle.cmc_objects.specs.declared.call.Reply.{Reply}
@@ -11,6 +9,7 @@ use Rattle.cmc_objects.specs.declared.entry.Entry.TheVariants.{Call as Called, T
 use Rattle.cmc_model.specs.Histories.{Setting, accepted, objects, state}
 use Rattle.cmc_model.specs.Objects.{Objects}
 use Rattle.cmc_model.specs.Replies.{State}
+pub use Rattle.cmc_collect_moves.specs.OwnerKeys.{owner_key}
 use Rattle.cmc_collector.specs.declared.entry.CollectEntry.{CollectEntry}
 use Rattle.cmc_collector.specs.declared.entry.CollectEntry.TheVariants.{User, Look, Delete}
 use Rattle.cmc_collector.specs.declared.entry.Moment.{Moment}
@@ -42,10 +41,6 @@ setting c = record {
 -- a word over a setting and moments, said of a collection
 abbrev pub on {ℓ} : {A : Type ℓ} → (Setting → List Moment → A) → Collecting → A
 on word c = word (setting c) c.moments
-
--- the key of an owner of an object of this namespace: owners live in the namespace of what they own
-abbrev pub owner_key : List ℕ → OwnerRef → Key
-owner_key namespace owner = record { kind = owner.kind; namespace = namespace; name = owner.name }
 
 -- a call at its moment
 abbrev pub with_call_at : ℤ → Call → Reply → List Entry → List Entry

@@ -7,10 +7,10 @@ use Rattle.cmc_meta.specs.declared.key.Kind.TheVariants.{Certificate, Certificat
 use Rattle.cmc_meta.specs.Keys.{key_cmp}
 use Rattle.cmc_model.specs.Histories.{Setting}
 use Rattle.cmc_collector.specs.declared.entry.Moment.{Moment}
-use Rattle.cmc_collector.specs.declared.moves.CollectMove.{CollectMove}
-use Rattle.cmc_collector.specs.declared.moves.CollectMove.TheVariants.{User, Deliver, Examine}
-use Rattle.cmc_collector.specs.declared.moves.Collected.{Collected}
-use Rattle.cmc_collector.specs.declared.moves.Collected.TheVariants.{Done, NotNow, Spent}
+use Rattle.cmc_collect_moves.specs.declared.moves.CollectMove.{CollectMove}
+use Rattle.cmc_collect_moves.specs.declared.moves.CollectMove.TheVariants.{User, Deliver, Examine}
+use Rattle.cmc_collect_moves.specs.declared.moves.Collected.{Collected}
+use Rattle.cmc_collect_moves.specs.declared.moves.Collected.TheVariants.{Done, NotNow, Spent}
 use Rattle.cmc_collector.specs.CachePositions.{position}
 use Rattle.cmc_collector.specs.Examinations.{is_to_examine}
 use Rattle.cmc_collector.specs.declared.entry.CollectEntry.{CollectEntry}

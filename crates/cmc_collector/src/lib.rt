@@ -9,13 +9,12 @@ mod collection;
 mod entries;
 mod entry;
 mod examination;
-mod moves;
 mod orphans;
 mod rows;
 mod settling;
 mod watched;
 
+pub use cmc_collect_moves::{CollectLack, CollectMove, Collected};
 pub use collection::Collection;
 pub use entries::CollectEntries;
 pub use entry::{CollectEntry, Moment};
-pub use moves::{CollectLack, CollectMove, Collected};

@@ -3,7 +3,6 @@ ghost use Rattle.std.specs.Option.{option_copied};
 ghost use Rattle.std.specs.Prelude.{◌≡◌, IfOk, None, Some, is_some, true};
 ghost use Rattle.cmc_informer.specs.Caches.{has_uid};
 ghost use Rattle.cmc_meta.specs.declared.key.Key.{Key as KeyValue};
-ghost use Rattle.cmc_objects.specs.declared.call.Call.TheVariants as calls;
 ghost use Rattle.cmc_collector.specs.Caches.{informer_object};
 ghost use Rattle.cmc_collector.specs.CachePositions as spec;
 ghost use Rattle.cmc_collector.specs.Examinations.{current_of};
@@ -14,40 +13,11 @@ ghost use Rattle.cmc_collector.specs.Settles.{FindsLeast};
 use crate::caches::Caches;
 use crate::examination::Examination;
 use crate::rows::Row;
+use cmc_collect_moves::owner_key;
 use cmc_meta::{Key, Name, OwnerRef};
-use cmc_objects::{Call, Object};
+use cmc_objects::Object;
 use std::alloc::AllocError;
 use std::collections::BTreeMap;
-
-/// The key of the owner of an object of this namespace.
-fn owner_key(namespace: &Name, owner: &OwnerRef) -> Result<Key, AllocError>
-    ensures { IfOk result (λ k. k ≡ playing.owner_key namespace.now owner.now) }
-{
-    Ok(Key {
-        kind: owner.kind,
-        namespace: namespace.copy()?,
-        name: owner.name.copy()?,
-    })
-}
-
-/// The read of the owner of an object of this namespace.
-pub(crate) fn get_of(namespace: &Name, owner: &OwnerRef) -> Result<Call, AllocError>
-    ensures { IfOk result (λ call. call ≡ calls.Get (playing.owner_key namespace.now owner.now)) }
-{
-    Ok(Call::Get {
-        key: owner_key(namespace, owner)?,
-    })
-}
-
-/// The delete of the key's object at this version.
-pub(crate) fn delete_of(key: &Key, version: u64) -> Result<Call, AllocError>
-    ensures { IfOk result (λ call. call ≡ calls.Delete key.now (Some version)) }
-{
-    Ok(Call::Delete {
-        key: key.copy()?,
-        version: Some(version),
-    })
-}
 
 /// Whether there is an object that has owners.
 pub(crate) fn is_owned(object: Option<&Object>) -> bool

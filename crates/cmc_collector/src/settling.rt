@@ -4,10 +4,10 @@ ghost use Rattle.cmc_meta.specs.declared.key.Key.{Key as KeyValue};
 ghost use Rattle.cmc_collector.specs.Owners.{CollectsWell, IsGoodCollect};
 ghost use Rattle.cmc_collector.specs.Replays.{on, played, setting};
 ghost use Rattle.cmc_collector.specs.Settles as spec;
-ghost use Rattle.cmc_collector.specs.declared.moves.Collected.TheVariants.{Done};
+ghost use Rattle.cmc_collect_moves.specs.declared.moves.Collected.TheVariants.{Done};
 
 use crate::collection::Collection;
-use crate::moves::{CollectMove, Collected};
+use cmc_collect_moves::{CollectMove, Collected, examine};
 use cmc_meta::Kind;
 use std::alloc::{AllocError, Global};
 
@@ -42,10 +42,7 @@ impl Collection {
             let to = self.newest(kind);
             return Ok(Some(CollectMove::Deliver { kind, to }));
         }
-        match self.orphan()? {
-            Some(key) => Ok(Some(CollectMove::Examine { key })),
-            None => Ok(None),
-        }
+        Ok(examine(self.orphan()?))
     }
 
     /// Makes the next move of settling; what settling ends as, where it ends.

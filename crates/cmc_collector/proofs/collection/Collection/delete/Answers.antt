@@ -7,7 +7,7 @@ use Rattle.cmc_objects.specs.declared.call.Call.{Call}
 use Rattle.cmc_objects.specs.declared.call.Call.TheVariants as calls
 use Rattle.cmc_model.specs.Replies.{IsReply}
 use Rattle.cmc_collector.specs.declared.entry.CollectEntry.TheVariants as entries
-use Rattle.cmc_collector.specs.declared.moves.CollectMove.TheVariants.{Examine}
+use Rattle.cmc_collect_moves.specs.declared.moves.CollectMove.TheVariants.{Examine}
 use Rattle.cmc_collector.specs.Moves.{IsStoreReply, IsEntry, with_entry}
 use Rattle.cmc_collector.specs.Replays.{Collecting, on, setting}
 use Rattle.cmc_collector.proofs.Keeping.{delete_entry}

@@ -37,7 +37,7 @@ pub enum Collected {
 
 impl Collected {
     ghost use Rattle.std.specs.Prelude.{◌≡◌, ◌↔◌, IsTrue};
-    ghost use Rattle.cmc_collector.specs.declared.moves.Collected.TheVariants as answers;
+    ghost use Rattle.cmc_collect_moves.specs.declared.moves.Collected.TheVariants as answers;
 
     /// Whether the move is made.
     pub fn is_done(self) -> bool
