@@ -245,7 +245,7 @@ fn owned_under(
 ) -> Result<Requests, AllocError>
     ensures { IfOk result (λ r. r ≡ filter_map (λ k. option_and_then (seen.owned_in certificate.now) (object_at (shown_by objects.now) k)) keys.now) }
 {
-    let mut owned = Requests::new(alloc);
+    let mut owned = Requests::with_capacity(alloc, keys.len())?;
     for key in keys {
         push_request(&mut owned, owned_at(certificate, objects, key)?)?;
     }

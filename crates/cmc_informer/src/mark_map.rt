@@ -67,7 +67,7 @@ impl MarkMap {
     pub(crate) fn keys(&self, alloc: Global) -> Result<Keys, AllocError>
         ensures { IfOk result (λ keys. AreKeys keys (λ k. mark_in self.now k)) }
     {
-        let mut keys = Keys::new(alloc);
+        let mut keys = Keys::with_capacity(alloc, self.map.len())?;
         for (key, on) in self.map.iter() {
             if *on {
                 keys.push(key.copy()?)?;

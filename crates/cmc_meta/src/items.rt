@@ -47,6 +47,15 @@ impl<T: Drop> Items<T> {
         }
     }
 
+    /// No items, with room for so many.
+    pub fn with_capacity(alloc: Global, items: usize) -> Result<Items<T>, AllocError>
+        ensures { IfOk result (λ t. t ≡ []) }
+    {
+        Ok(Items {
+            items: Vec::with_capacity(alloc, items)?,
+        })
+    }
+
     /// Adds an item at the end.
     pub fn push(&mut self, item: T) -> Result<(), AllocError>
         ensures ok { OnOk result (self.new ≡ self.old ++ item ∷ []) }
@@ -96,7 +105,7 @@ impl<T: Item> Item for Items<T> {
 pub fn copy_items<T: Item>(alloc: Global, items: &[T]) -> Result<Vec<T>, AllocError>
     ensures { IfOk result (λ v. v.items ≡ items.now) }
 {
-    let mut copies = Vec::new(alloc);
+    let mut copies = Vec::with_capacity(alloc, items.len())?;
     for item in items {
         copies.push(item.copy()?)?;
     }
