@@ -1,4 +1,3 @@
-pub mod OneMore
 pub mod Moves
 pub mod Loop
 pub mod PrintLaws

@@ -4,9 +4,9 @@ use Rattle.std.proofs.lemmas.List.{drop_all}
 use Rattle.std.specs.Prelude.{int_le}
 use Rattle.cmc_setup.specs.Setups.{last_moment}
 use Rattle.cmc_collector.specs.Replays.{Collecting}
-use Rattle.cmc_collect_run.specs.Steps.{AreInTime, moment_after}
-use Rattle.cmc_collect_run.specs.declared.script.CollectScript.{CollectScript}
-use Rattle.cmc_collect_run.specs.declared.script.CollectStep.{CollectStep}
+use Rattle.cmc_collect_form.specs.Steps.{AreInTime, moment_after}
+use Rattle.cmc_collect_form.specs.declared.script.CollectScript.{CollectScript}
+use Rattle.cmc_collect_form.specs.declared.script.CollectStep.{CollectStep}
 use Rattle.cmc_collect_run.specs.Answers.{IsMadeBy, IsSpentBy}
 use Rattle.cmc_collect_run.specs.Runs.{Made, SpendsEntries, Stepped, StopsAtLimit}
 

@@ -9,7 +9,7 @@ use Rattle.cmc_collect_moves.specs.declared.moves.Collected.TheVariants.{Done, N
 use Rattle.cmc_collector.specs.Moves.{LeavesCollected, answer, answer_of, lack}
 use Rattle.cmc_collector.specs.Replays.{Collecting, on}
 use Rattle.cmc_collector.specs.Settles.{EndsAs, Settles}
-use Rattle.cmc_collect_run.specs.declared.script.CollectStep.TheVariants.{Settle}
+use Rattle.cmc_collect_form.specs.declared.script.CollectStep.TheVariants.{Settle}
 use Rattle.cmc_collect_run.specs.Runs.{IsMoved, IsStepped, MovedWith, collect_goes_on}
 
 abbrev IsMovedWith : Option CollectLack → Bool → ℤ → CollectMove → Collecting → Collecting → Type 0

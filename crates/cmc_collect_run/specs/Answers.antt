@@ -4,8 +4,8 @@ use Rattle.serde_json.specs.Data.{Data}
 use Rattle.cmc_report.specs.Text.{joined}
 use Rattle.cmc_collector.specs.Owners.{CollectsWell}
 use Rattle.cmc_collector.specs.Replays.{Collecting, on}
-use Rattle.cmc_collect_run.specs.Collections.{collect_at}
-use Rattle.cmc_collect_run.specs.declared.script.CollectScript.{CollectScript}
+use Rattle.cmc_collect_form.specs.Collections.{collect_at}
+use Rattle.cmc_collect_form.specs.declared.script.CollectScript.{CollectScript}
 use Rattle.cmc_collect_run.specs.Printed.{collect_lines}
 use Rattle.cmc_collect_run.specs.Runs.{Made, SpendsEntries, first_collecting}
 use Rattle.cmc_collect_run.specs.declared.answering.NotCollected.{NotCollected}

@@ -1,5 +1,3 @@
-pub mod Steps
-pub mod Collections
 pub mod Runs
 pub mod Printed
 pub mod Answers

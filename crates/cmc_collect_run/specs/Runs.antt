@@ -16,10 +16,10 @@ use Rattle.cmc_collect_moves.specs.declared.moves.Collected.TheVariants.{Done, N
 use Rattle.cmc_collector.specs.Moves.{IsEntry, lack, with_entry}
 use Rattle.cmc_collector.specs.Replays.{Collecting, on, stored_objects}
 use Rattle.cmc_collector.specs.Settles.{IsSettled, Settles}
-use Rattle.cmc_collect_run.specs.Steps.{moment_after}
-use Rattle.cmc_collect_run.specs.declared.script.CollectScript.{CollectScript}
-use Rattle.cmc_collect_run.specs.declared.script.CollectStep.{CollectStep}
-use Rattle.cmc_collect_run.specs.declared.script.CollectStep.TheVariants.{Apply, Delete, Tick, Deliver, Examine, Settle}
+use Rattle.cmc_collect_form.specs.Steps.{moment_after}
+use Rattle.cmc_collect_form.specs.declared.script.CollectScript.{CollectScript}
+use Rattle.cmc_collect_form.specs.declared.script.CollectStep.{CollectStep}
+use Rattle.cmc_collect_form.specs.declared.script.CollectStep.TheVariants.{Apply, Delete, Tick, Deliver, Examine, Settle}
 
 -- the collection before the first step
 abbrev pub first_collecting : CollectScript → Collecting

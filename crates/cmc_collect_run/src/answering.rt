@@ -4,9 +4,9 @@ ghost use Rattle.serde_json.specs.View.{view};
 ghost use Rattle.cmc_report.specs.Text.{joined};
 ghost use Rattle.cmc_collect_run.specs.Answers.{AnswersCollect, Refuses};
 
-use crate::reading::{BadCollection, read};
 use crate::running::{Ran, run_script};
 use crate::text::collect_text;
+use cmc_collect_form::{BadCollection, read};
 use cmc_meta::Text;
 use cmc_report::Lines;
 use cmc_seed::HashSeed;

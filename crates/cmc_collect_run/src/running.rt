@@ -3,12 +3,12 @@ ghost use Rattle.std.specs.Prelude.{◌≡◌, IfOk};
 ghost use Rattle.cmc_objects.specs.Objects.{key_of};
 ghost use Rattle.cmc_model.specs.Objects.{object_at};
 ghost use Rattle.cmc_rules.specs.UserSteps.{apply_call};
-ghost use Rattle.cmc_collect_run.specs.Collections.{IsInTime};
+ghost use Rattle.cmc_collect_form.specs.Collections.{IsInTime};
 ghost use Rattle.cmc_collect_run.specs.Answers.{IsCollectionOf};
 ghost use Rattle.cmc_collect_run.specs.Runs.{IsMoved, IsStepped, collect_goes_on};
-ghost use Rattle.cmc_collect_run.specs.declared.script.CollectStep.TheVariants.{Settle};
+ghost use Rattle.cmc_collect_form.specs.declared.script.CollectStep.TheVariants.{Settle};
 
-use crate::script::{CollectScript, CollectStep};
+use cmc_collect_form::{CollectScript, CollectStep};
 use cmc_collector::{CollectMove, Collected, Collection};
 use cmc_objects::{Call, Object};
 use cmc_seed::HashSeed;

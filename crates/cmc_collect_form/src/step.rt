@@ -3,7 +3,7 @@ ghost use Rattle.std.specs.Prelude.{◌≡◌, map, option_map};
 ghost use Rattle.serde_json.specs.View.{view};
 ghost use Rattle.cmc_cursor.specs.Members.{Gives};
 ghost use Rattle.cmc_cursor.specs.Seen.{shown};
-ghost use Rattle.cmc_collect_run.specs.Steps.{collect_apply_at, apply_in, delete_in, deliver_in, examine_in, settle_in, collect_step_at, step_in, stray_in, tick_in};
+ghost use Rattle.cmc_collect_form.specs.Steps.{collect_apply_at, apply_in, delete_in, deliver_in, examine_in, settle_in, collect_step_at, step_in, stray_in, tick_in};
 
 use crate::script::CollectStep;
 use cmc_codec::{Applied, applied_of};

@@ -1,9 +1,9 @@
 use Rattle.std.proofs.Common.{rules}
 use Rattle.std.specs.Int.{w64}
 use Rattle.std.proofs.lemmas.Int.{to_z-of_z}
-use Rattle.cmc_collect_run.specs.Steps.{AreInTime}
-use Rattle.cmc_collect_run.proofs.OneMore.{under_name}
-use Rattle.cmc_collect_run.proofs.steps.script.Goals as goal
+use Rattle.cmc_collect_form.specs.Steps.{AreInTime}
+use Rattle.cmc_collect_form.proofs.OneMore.{under_name}
+use Rattle.cmc_collect_form.proofs.steps.script.Goals as goal
 
 pub returns-in-Some-clause-in_time : goal.returns-in-Some-clause-in_time
 returns-in-Some-clause-in_time c =

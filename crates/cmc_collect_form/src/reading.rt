@@ -4,7 +4,7 @@ ghost use Rattle.serde_json.specs.View.{view};
 ghost use Rattle.serde_json.specs.Written.{has_float};
 ghost use Rattle.cmc_cursor.specs.Members.{Gives};
 ghost use Rattle.cmc_cursor.specs.Seen.{shown};
-ghost use Rattle.cmc_collect_run.specs.Collections.{CollectionFailsAt, IsInTime, IsReading, collect_at, collection_in, members_at, collection_whole_at};
+ghost use Rattle.cmc_collect_form.specs.Collections.{CollectionFailsAt, IsInTime, IsReading, collect_at, collection_in, members_at, collection_whole_at};
 
 use crate::script::CollectScript;
 use crate::steps::script;

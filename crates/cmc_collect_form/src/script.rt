@@ -1,7 +1,7 @@
 //! What a script of owner collection is.
 ghost use Rattle.std.specs.Prelude.{◌≡◌, ◌++◌, ◌∷◌, [], OnOk, OnErr, MatchOption, false, int_le, true};
 ghost use Rattle.cmc_setup.specs.Setups.{last_moment};
-ghost use Rattle.cmc_collect_run.specs.Steps.{moment_after, collect_step_seconds};
+ghost use Rattle.cmc_collect_form.specs.Steps.{moment_after, collect_step_seconds};
 
 use cmc_meta::{Key, Kind, Numbers};
 use cmc_objects::Object;
@@ -78,7 +78,7 @@ impl Drop for CollectSteps {
 
 impl Model for CollectSteps {
     ghost use Rattle.std.specs.Prelude.{List};
-    ghost use Rattle.cmc_collect_run.specs.declared.script.CollectStep.{CollectStep};
+    ghost use Rattle.cmc_collect_form.specs.declared.script.CollectStep.{CollectStep};
 
     ghost Value = { List CollectStep };
 

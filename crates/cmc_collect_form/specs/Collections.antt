@@ -6,10 +6,10 @@ use Rattle.cmc_cursor.specs.Members.{Path, Read, text_of, in_words, ◌>>=◌, F
 use Rattle.cmc_cursor.specs.Readers.{floats_at}
 use Rattle.cmc_material.specs.Lists.{member_or}
 use Rattle.cmc_scenario.specs.Scenarios.{faults_at, start_moment_at, size_at, usual_moment}
-use Rattle.cmc_collect_run.specs.declared.script.CollectScript.{CollectScript}
-use Rattle.cmc_collect_run.specs.declared.reading.BadCollection.{BadCollection}
-use Rattle.cmc_collect_run.specs.declared.reading.BadCollection.TheVariants as bad
-use Rattle.cmc_collect_run.specs.Steps.{AreInTime, script_at}
+use Rattle.cmc_collect_form.specs.declared.script.CollectScript.{CollectScript}
+use Rattle.cmc_collect_form.specs.declared.reading.BadCollection.{BadCollection}
+use Rattle.cmc_collect_form.specs.declared.reading.BadCollection.TheVariants as bad
+use Rattle.cmc_collect_form.specs.Steps.{AreInTime, script_at}
 
 -- The script of an object's members, or the first failing path.
 unfoldable pub collection_in : List Field → Read CollectScript

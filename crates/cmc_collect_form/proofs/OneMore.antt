@@ -9,8 +9,8 @@ use Rattle.cmc_cursor.specs.declared.error.BadField.{BadField}
 use Rattle.cmc_cursor.specs.declared.error.BadField.TheVariants as bad
 use Rattle.cmc_cursor.specs.Readers.{with_front}
 use Rattle.cmc_setup.specs.Setups.{last_moment}
-use Rattle.cmc_collect_run.specs.Steps.{AreInTime, moment_after, numbered_step_at, steps_from}
-use Rattle.cmc_collect_run.specs.declared.script.CollectStep.{CollectStep}
+use Rattle.cmc_collect_form.specs.Steps.{AreInTime, moment_after, numbered_step_at, steps_from}
+use Rattle.cmc_collect_form.specs.declared.script.CollectStep.{CollectStep}
 
 -- the steps that were read and those of the items that are left give what all items give, and they keep within time where those do
 pub record IsReadSoFar (begin : ℤ) (front : List CollectStep) (now : ℤ) (n : ℕ) (left : List Value) (all : Read (List CollectStep)) : Type 0 where

@@ -4,7 +4,7 @@ ghost use Rattle.serde_json.specs.View.{view, items_view};
 ghost use Rattle.cmc_cursor.specs.Members.{Gives};
 ghost use Rattle.cmc_cursor.specs.Seen.{shown_option};
 ghost use Rattle.cmc_setup.specs.Setups.{last_moment};
-ghost use Rattle.cmc_collect_run.specs.Steps as spec;
+ghost use Rattle.cmc_collect_form.specs.Steps as spec;
 
 use crate::script::{CollectStep, CollectSteps};
 use crate::step::step;

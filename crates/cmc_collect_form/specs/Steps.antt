@@ -10,8 +10,8 @@ use Rattle.cmc_setup.specs.Setups.{last_moment}
 use Rattle.cmc_material.specs.Keys.{key_at}
 use Rattle.cmc_material.specs.Lists.{member_option, bounded_at}
 use Rattle.cmc_scenario.specs.Roles.{kind_at}
-use Rattle.cmc_collect_run.specs.declared.script.CollectStep.{CollectStep}
-use Rattle.cmc_collect_run.specs.declared.script.CollectStep.TheVariants.{Apply, Delete, Tick, Deliver, Examine, Settle}
+use Rattle.cmc_collect_form.specs.declared.script.CollectStep.{CollectStep}
+use Rattle.cmc_collect_form.specs.declared.script.CollectStep.TheVariants.{Apply, Delete, Tick, Deliver, Examine, Settle}
 
 -- The object, at the resource version that it names.
 abbrev pub collect_apply_at : Data → Read CollectStep
