@@ -10,7 +10,7 @@ ghost use Rattle.cmc_held.specs.Remembered.{is_noted, has_past_row, memory_at, p
 
 use crate::role_states::put_at_kind;
 use cmc_meta::{Key, Kind};
-use cmc_objects::{Positions, Role};
+use cmc_objects::{Positions, Role, Shared};
 use cmc_pass::Views;
 use cmc_rules::{Ending, LastPass, Past};
 use cmc_seed::HashSeed;
@@ -69,7 +69,7 @@ impl RoleMemory {
 
     /// Remembers that a pass on the key begins.
     #[tactic(auto, unfolding(crate::specs::Remembered::memory_at, crate::specs::Remembered::is_noted))]
-    fn begin(&mut self, key: &Key, seen: Views, since: i64)
+    fn begin(&mut self, key: &Key, seen: Shared<Views>, since: i64)
         requires { is_noted self.old key.now ≡ true }
         ensures past { (k : KeyValue) → memory_at self.new k ≡ (if key_eq key.now k then with_begin seen since (memory_at self.old k) else memory_at self.old k) }
         ensures room { KeepsNoted self.old self.new }
@@ -170,7 +170,7 @@ impl RoleMemories {
     }
 
     /// The role begins a pass on the key, of which it saw this at this moment. It takes no memory.
-    pub fn begin(&mut self, role: Role, key: &Key, seen: Views, since: i64)
+    pub fn begin(&mut self, role: Role, key: &Key, seen: Shared<Views>, since: i64)
         requires { has_past_row self.old role key.now ≡ true }
         ensures past { (r : RoleValue) → (k : KeyValue) → past_at self.new r k ≡ (if role_eq role r && key_eq key.now k then with_begin seen since (past_at self.old r k) else past_at self.old r k) }
         ensures room { KeepsReady self.old self.new }
@@ -218,7 +218,7 @@ fn new_past() -> Past
     }
 }
 
-fn note_begin(past: &mut Past, seen: Views, since: i64)
+fn note_begin(past: &mut Past, seen: Shared<Views>, since: i64)
     ensures { past.new ≡ with_begin seen since past.old }
 {
     past.last = Some(LastPass {

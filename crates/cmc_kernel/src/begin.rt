@@ -24,7 +24,7 @@ use cmc_caches::Caches;
 use cmc_held::{is_same, own_above, shown_positions};
 use cmc_meta::Key;
 use cmc_moves::{Stepped, answer_begin};
-use cmc_objects::{Entry, Positions, Role, kind_of_work};
+use cmc_objects::{Entry, Positions, Role, Shared, kind_of_work};
 use cmc_pass::Views;
 use cmc_rules::{OpenPass, Origin, Past, Stage};
 use std::alloc::{AllocError, Global};
@@ -35,7 +35,7 @@ pub(crate) struct Prepared {
     pub number: u64,
     pub origin: Origin,
     pub pass: OpenPass,
-    pub seen: Views,
+    pub seen: Shared<Views>,
     pub key: Key,
     pub at: Positions,
 }
@@ -81,7 +81,7 @@ fn is_queued(of_work: bool, quiet: bool) -> bool
 }
 
 /// A pass of the role that begins on the key, of which it sees this. An error is one of memory.
-fn opened(role: Role, key: &Key, seen: &Views, since: i64) -> Result<OpenPass, AllocError>
+fn opened(role: Role, key: &Key, seen: &Shared<Views>, since: i64) -> Result<OpenPass, AllocError>
     ensures { IfOk result (λ pass. pass ≡ new_pass role key.now seen.now since) }
 {
     Ok(OpenPass {
@@ -121,7 +121,7 @@ impl Kernel {
     }
 
     /// The pass that is to begin on the key, of which the role sees this.
-    fn prepare(&self, role: Role, key: Key, seen: Views) -> Result<Prepared, AllocError>
+    fn prepare(&self, role: Role, key: Key, seen: Shared<Views>) -> Result<Prepared, AllocError>
         requires { seen ≡ on views self.now role key }
         ensures { IfOk result (λ p. on IsPrepared self.now role key p) }
     {
@@ -203,7 +203,12 @@ impl Kernel {
     /// # Errors
     ///
     /// Where memory runs out, the world is as it was.
-    pub fn begin_due(&mut self, role: Role, key: Key, seen: Views) -> Result<Stepped, AllocError>
+    pub fn begin_due(
+        &mut self,
+        role: Role,
+        key: Key,
+        seen: Shared<Views>,
+    ) -> Result<Stepped, AllocError>
         requires running { on runs self.old role ≡ true }
         requires free { on IsWorking self.old role key → ⊥ }
         requires due { IsDue (on past self.old role key) seen (on moment self.old) (positions self.old.history role) }

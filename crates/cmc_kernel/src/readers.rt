@@ -23,7 +23,7 @@ use crate::kernel::Kernel;
 use cmc_caches::Caches;
 use cmc_held::{Log, Passes, is_held, shown_positions};
 use cmc_meta::{Key, Kind};
-use cmc_objects::{Positions, Role};
+use cmc_objects::{Positions, Role, Shared};
 use cmc_pass::Views;
 use cmc_rules::Past;
 use std::alloc::{AllocError, Global};
@@ -71,11 +71,18 @@ impl Kernel {
         shown_positions(role, self.role_states.get(role).told)
     }
 
-    /// What the role sees of the key, by what it was told of.
-    pub fn views(&self, alloc: Global, role: Role, key: &Key) -> Result<Views, AllocError>
+    fn own_views(&self, alloc: Global, role: Role, key: &Key) -> Result<Views, AllocError>
         ensures { IfOk result (λ seen. seen ≡ on views self.now role key.now) }
     {
         self.caches.views(alloc, role, key)
+    }
+
+    /// What the role sees of the key, by what it was told of. A pass that begins on it and what the role remembers share it.
+    pub fn views(&self, alloc: Global, role: Role, key: &Key) -> Result<Shared<Views>, AllocError>
+        ensures { IfOk result (λ seen. seen ≡ on views self.now role key.now) }
+    {
+        let seen = self.own_views(alloc, role, key)?;
+        Shared::new(alloc, seen)
     }
 
     /// The accepted writes, and how far each role was told of each kind.

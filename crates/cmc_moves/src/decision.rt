@@ -8,7 +8,7 @@ ghost use Rattle.cmc_moves.specs.Decisions.{IsDecision, SawSame};
 
 use crate::acts::act_of;
 use cmc_meta::Texts;
-use cmc_objects::{Material, Role, Rules};
+use cmc_objects::{Material, Role, Rules, Shared};
 use cmc_pass::{Act, Desk, Views};
 use cmc_policy_rules::Policies;
 use cmc_rules::{OpenPass, Stage};
@@ -19,7 +19,7 @@ use std::marker::Model;
 /// there is no world.
 pub struct Begun {
     role: Role,
-    views: Views,
+    views: Shared<Views>,
     /// The moment of the begin, in seconds since 1970-01-01T00:00:00Z.
     since: i64,
 }
@@ -109,7 +109,7 @@ fn bare_desk(alloc: Global) -> Desk
 impl Begun {
     /// What the role's pass saw that began at this moment, in seconds since 1970-01-01T00:00:00Z. It asks that the role may
     /// decide on it.
-    pub fn new(role: Role, views: Views, since: i64) -> Begun
+    pub fn new(role: Role, views: Shared<Views>, since: i64) -> Begun
         requires { MayAct views since spec.bare_desk }
         ensures { result ≡ record { role = role; views = views; since = since } }
     {

@@ -1,6 +1,6 @@
 //! How far passes have come, and what stays known of them.
 use cmc_meta::{Key, Kind};
-use cmc_objects::{Order, Positions, Role};
+use cmc_objects::{Order, Positions, Role, Shared};
 use cmc_pass::{Value, Views};
 
 /// What kept a call of a pass from being served.
@@ -59,7 +59,7 @@ pub struct OpenPass {
     pub role: Role,
     pub key: Key,
     /// What its role saw of the key at the Begin.
-    pub seen: Views,
+    pub seen: Shared<Views>,
     /// The moment of the Begin, in seconds since 1970-01-01T00:00:00Z.
     pub since: i64,
     pub stage: Stage,
@@ -100,7 +100,7 @@ pub enum Ending {
 /// The last pass of a role on a key.
 pub struct LastPass {
     /// What the role saw of the key at the Begin.
-    pub seen: Views,
+    pub seen: Shared<Views>,
     /// The moment of the Begin, in seconds since 1970-01-01T00:00:00Z.
     pub since: i64,
     pub ending: Ending,

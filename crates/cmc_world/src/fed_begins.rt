@@ -30,7 +30,7 @@ use crate::openings::Opening;
 use cmc_kernel::{Kernel, Stepped};
 use cmc_meta::Key;
 use cmc_moves::let_go;
-use cmc_objects::Role;
+use cmc_objects::{Role, Shared};
 use cmc_pass::{Act, Views};
 use cmc_queue::Found;
 use cmc_waking::Queues;
@@ -42,7 +42,7 @@ pub(crate) fn dated_views(
     kernel: &Kernel,
     role: Role,
     key: &Key,
-) -> Result<Views, AllocError>
+) -> Result<Shared<Views>, AllocError>
     ensures sees { IfOk result (λ seen. seen ≡ on views kernel.now role key.now) }
     ensures dated { IfOk result HasDatedMoments }
 {
@@ -132,7 +132,7 @@ pub(crate) fn begin_due(
     queues: &mut Queues,
     role: Role,
     key: Key,
-    seen: Views,
+    seen: Shared<Views>,
 ) -> Result<Stepped, AllocError>
     requires fed { on IsFed kernel.old queues.old }
     requires running { on runs kernel.old role ≡ true }
@@ -166,7 +166,7 @@ fn begin_noted(
     queues: &mut Queues,
     role: Role,
     key: Key,
-    seen: Views,
+    seen: Shared<Views>,
 ) -> Result<Stepped, AllocError>
     requires fed { on IsFed kernel.old queues.old }
     requires running { on runs kernel.old role ≡ true }
@@ -199,7 +199,7 @@ fn found_on(
     key: &Key,
     work: Found,
     opening: Option<Opening>,
-) -> Result<(Views, Option<Act>), AllocError>
+) -> Result<(Shared<Views>, Option<Act>), AllocError>
     requires mine { IfSome opening (IsMine role key.now) }
     requires found { IfSome opening (on IsCurrent kernel.now) }
     requires idle { work ≡ found.Nothing → on IsIdle kernel.now role (on views kernel.now role key.now) }
@@ -228,7 +228,7 @@ fn begin_seen(
     role: Role,
     key: Key,
     work: Found,
-    seen: Views,
+    seen: Shared<Views>,
 ) -> Result<Stepped, AllocError>
     requires fed { on IsFed kernel.old queues.old }
     requires running { on runs kernel.old role ≡ true }

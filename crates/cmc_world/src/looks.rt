@@ -26,7 +26,7 @@ use crate::openings::Opening;
 use cmc_kernel::{Kernel, Prospect};
 use cmc_meta::Key;
 use cmc_moves::let_go;
-use cmc_objects::Role;
+use cmc_objects::{Role, Shared};
 use cmc_pass::{Act, Views};
 use cmc_queue::Parked;
 use cmc_rules::Ending;
@@ -50,7 +50,7 @@ pub(crate) enum Look {
 pub(crate) fn opening(
     role: Role,
     key: &Key,
-    seen: Views,
+    seen: Shared<Views>,
     does: Option<Act>,
 ) -> Result<Opening, AllocError>
     ensures { IfOk result (λ o. o ≡ record { role = role; key = key.now; seen = seen; does = does }) }
@@ -99,7 +99,7 @@ fn nothing_to_do(
     kernel: &Kernel,
     role: Role,
     key: &Key,
-    seen: Views,
+    seen: Shared<Views>,
 ) -> Result<Look, AllocError>
     requires sees { seen ≡ on views kernel.now role key.now }
     requires dated { HasDatedMoments seen }
@@ -120,7 +120,7 @@ fn due(
     kernel: &Kernel,
     role: Role,
     key: &Key,
-    seen: Views,
+    seen: Shared<Views>,
 ) -> Result<Look, AllocError>
     requires running { on runs kernel.now role ≡ true }
     requires free { on IsFree kernel.now role key.now }

@@ -14,7 +14,7 @@ use crate::fed_passes::act_first;
 use cmc_kernel::{Kernel, Stepped};
 use cmc_meta::Key;
 use cmc_moves::let_go;
-use cmc_objects::Role;
+use cmc_objects::{Role, Shared};
 use cmc_pass::{Act, Views};
 use cmc_waking::Queues;
 use std::alloc::{AllocError, Global};
@@ -24,7 +24,7 @@ pub struct Opening {
     pub role: Role,
     pub key: Key,
     /// What the role sees of the key.
-    pub seen: Views,
+    pub seen: Shared<Views>,
     /// What it does; `None` of a role that decides by what it sees alone, whose act is not yet made out.
     pub does: Option<Act>,
 }
@@ -60,7 +60,7 @@ impl Opening {
         None
     }
 
-    pub(crate) fn into_parts(self) -> (Role, Key, Views, Option<Act>)
+    pub(crate) fn into_parts(self) -> (Role, Key, Shared<Views>, Option<Act>)
         ensures { result ≡ (self.role, self.key, self.seen, self.does) }
     {
         let Opening {

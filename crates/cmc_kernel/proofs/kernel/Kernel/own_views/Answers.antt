@@ -4,7 +4,7 @@ use Rattle.std.specs.Prelude.{IfOk}
 use Rattle.cmc_rules.specs.Views.{views}
 use Rattle.cmc_kernel.specs.Kept.{Seen, on}
 use Rattle.cmc_kernel.proofs.Judging.{saw}
-use Rattle.cmc_kernel.proofs.kernel.Kernel.views.Goals as goal
+use Rattle.cmc_kernel.proofs.kernel.Kernel.own_views.Goals as goal
 
 pub returns : goal.returns
 returns c =
