@@ -1,16 +1,16 @@
 //! What a role sees of a key.
 ghost use Rattle.std.specs.List.{list_any};
-ghost use Rattle.std.specs.Prelude.{◌≡◌, ◌==◌, ◌&&◌, ◌++◌, Some, None, [], IfOk, OnOk, OnErr, codes, option_to_list, option_and_then, filter_map, if◌then◌else◌};
+ghost use Rattle.std.specs.Prelude.{◌≡◌, ◌==◌, ◌&&◌, ◌++◌, Some, None, [], IfOk, OnOk, OnErr, option_to_list, option_and_then, filter_map, if◌then◌else◌};
 ghost use Rattle.cmc_model.specs.Objects.{Objects, object_at};
 ghost use Rattle.cmc_objects.specs.Informers as tables;
 ghost use Rattle.cmc_rules.specs.Views as seen;
 ghost use Rattle.cmc_caches.specs.Board.{shown_by};
 
 use crate::shown::Shown;
-use cmc_meta::{Key, Kind, ObjectMeta, OwnerRef, Text};
+use cmc_meta::{Key, Kind, ObjectMeta, OwnerRef};
 use cmc_objects::{
     Certificate, CertificateRequest, Object, Role, Secret, Shared, looks_at_next,
-    looks_at_requests, looks_at_secret, works_on_requests,
+    looks_at_requests, looks_at_secret, text_under, works_on_requests,
 };
 use cmc_pass::{Requests, Secrets, Views};
 use std::alloc::{AllocError, Global};
@@ -103,42 +103,34 @@ fn is_owned(certificate: &Certificate, meta: &ObjectMeta) -> bool
         && has_owner(meta.owners.as_slice(), certificate.meta.uid)
 }
 
-fn has_next_label(label: &Text, meta: &ObjectMeta) -> bool
-    requires { label.now ≡ codes "cert-manager.io/next-private-key" }
+fn has_next_label(meta: &ObjectMeta) -> bool
     ensures { result ≡ seen.has_next_label meta.now }
 {
-    match meta.labels.get(label) {
+    match text_under(&meta.labels, "cert-manager.io/next-private-key") {
         Some(text) => text.as_str() == "true",
         None => false,
     }
 }
 
 fn next_secret(
-    label: &Text,
     certificate: &Certificate,
     secret: &Shared<Secret>,
 ) -> Result<Option<Shared<Secret>>, AllocError>
-    requires { label.now ≡ codes "cert-manager.io/next-private-key" }
     ensures { IfOk result (λ s. s ≡ (if seen.has_next_label secret.now.meta && seen.is_owned certificate.now secret.now.meta then Some secret.now else None)) }
 {
-    if has_next_label(label, &secret.meta) && is_owned(certificate, &secret.meta) {
+    if has_next_label(&secret.meta) && is_owned(certificate, &secret.meta) {
         return Ok(Some(secret.copy()?));
     }
     Ok(None)
 }
 
-fn next_in(
-    label: &Text,
-    certificate: &Certificate,
-    object: &Object,
-) -> Result<Option<Shared<Secret>>, AllocError>
-    requires { label.now ≡ codes "cert-manager.io/next-private-key" }
+fn next_in(certificate: &Certificate, object: &Object) -> Result<Option<Shared<Secret>>, AllocError>
     ensures { IfOk result (λ s. s ≡ seen.next_in certificate.now object.now) }
 {
     match object {
         Object::Cert(_) => Ok(None),
         Object::Request(_) => Ok(None),
-        Object::Secret(secret) => next_secret(label, certificate, secret),
+        Object::Secret(secret) => next_secret(certificate, secret),
     }
 }
 
@@ -192,16 +184,14 @@ fn push_request(
 
 /// The Secret under the key, where it has a next private key of the Certificate.
 fn next_at(
-    label: &Text,
     certificate: &Certificate,
     objects: &Shown<'_>,
     key: &Key,
 ) -> Result<Option<Shared<Secret>>, AllocError>
-    requires { label.now ≡ codes "cert-manager.io/next-private-key" }
     ensures { IfOk result (λ s. s ≡ option_and_then (seen.next_in certificate.now) (object_at (shown_by objects.now) key.now)) }
 {
     match objects.get(key) {
-        Some(object) => next_in(label, certificate, object),
+        Some(object) => next_in(certificate, object),
         None => Ok(None),
     }
 }
@@ -222,17 +212,15 @@ fn owned_at(
 
 fn next_under(
     alloc: Global,
-    label: &Text,
     certificate: &Certificate,
     objects: &Shown<'_>,
     keys: &[Key],
 ) -> Result<Secrets, AllocError>
-    requires { label.now ≡ codes "cert-manager.io/next-private-key" }
     ensures { IfOk result (λ s. s ≡ filter_map (λ k. option_and_then (seen.next_in certificate.now) (object_at (shown_by objects.now) k)) keys.now) }
 {
     let mut next = Secrets::new(alloc);
     for key in keys {
-        push_secret(&mut next, next_at(label, certificate, objects, key)?)?;
+        push_secret(&mut next, next_at(certificate, objects, key)?)?;
     }
     Ok(next)
 }
@@ -260,9 +248,8 @@ fn next_of(
 ) -> Result<Secrets, AllocError>
     ensures { IfOk result (λ s. s ≡ seen.next_of (shown_by objects.now) certificate.now) }
 {
-    let label = Text::from_str(alloc, "cert-manager.io/next-private-key")?;
     let keys = objects.owned_by(alloc, certificate.meta.uid)?;
-    next_under(alloc, &label, certificate, objects, keys.as_slice())
+    next_under(alloc, certificate, objects, keys.as_slice())
 }
 
 /// The CertificateRequests that the Certificate owns: of what names its uid as an owner, those.

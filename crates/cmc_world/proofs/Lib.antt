@@ -1,3 +1,4 @@
+pub mod Taking
 pub mod OneReply
 pub mod OneValue
 pub mod OneGrowth

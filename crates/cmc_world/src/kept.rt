@@ -78,6 +78,7 @@ impl Kept {
     }
 
     /// Takes the pass of the role on the key, where it is kept.
+    #[tactic(auto, using(crate::proofs::Taking::all_taken))]
     pub(crate) fn take_pass(&mut self, role: Role, key: &Key) -> Option<Opening>
         ensures told { self.new.told ≡ self.old.told }
         ensures act { self.new.act ≡ self.old.act }
@@ -86,7 +87,7 @@ impl Kept {
         ensures looked { (s : Setting) → (h : List Entry) → AreCurrent s h self.old.looked.items → AreCurrent s h self.new.looked.items }
     {
         let place = self.place_of(role, key)?;
-        self.looked.remove(place).only_on(role, key)
+        self.looked.swap_remove(place).only_on(role, key)
     }
 
     /// Takes what the newest pass does, where that is known.
