@@ -17,7 +17,7 @@ use Rattle.cmc_model.specs.Histories.{Setting, moment, accepted}
 use Rattle.cmc_model.specs.Writes.{writes, write_at, last_of_kind, is_known}
 use Rattle.cmc_objects.specs.Informers.{has_informer, kind_of_work}
 use Rattle.cmc_rules.specs.Positions.{position, positions, position_of}
-use Rattle.cmc_rules.specs.Views.{Caches, views, views_in}
+use Rattle.cmc_rules.specs.Views.{views, views_in}
 use Rattle.cmc_rules.specs.Passes.{open_pass, is_pass_of}
 use Rattle.cmc_rules.specs.Memory.{past}
 use Rattle.cmc_rules.specs.Sameness.{IsSame}

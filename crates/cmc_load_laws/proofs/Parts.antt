@@ -86,10 +86,6 @@ ready_kept now seen version c later same =
     ∙ ap not (settled_same (ready_condition now new) (frame_of now c).renew (pair_at seen.secret) c.status later same.begins same.ends same.renews same.ready)
     ∙ sym (ready_acts (ready_condition now new) (frame_of now c).renew (pair_at seen.secret) c)
 
-pub ready_beside : (now : ℤ) (seen : Views) (next : List Secret) → readiness (with_next next seen) now ≡ readiness seen now
-unfolding readiness
-ready_beside now seen next = refl
-
 -- ---- the trigger
 
 reason_acts : (now : ℤ) (requests : List CertificateRequest) (c : Certificate) (reason : Option Reason) → acts (for_reason now requests c reason) ≡ (is_some reason && not (is_in_back_off now requests c))

@@ -24,7 +24,7 @@ use Rattle.cmc_pass.specs.declared.pass.Desk.{Desk}
 use Rattle.cmc_pass.specs.declared.pass.Act.{Act}
 use Rattle.cmc_pass.specs.declared.pass.Act.TheVariants.{Nothing, Issue}
 use Rattle.cmc_rules.specs.NextKeys.{named_key}
-use Rattle.cmc_rules.specs.NextRequests.{is_wanted, is_refused, failed_before, is_before}
+use Rattle.cmc_rules.specs.NextRequests.{is_wanted, is_refused}
 use Rattle.cmc_rules.specs.Chains.{readiness_reason, trigger_reason}
 use Rattle.cmc_rules.specs.Trigger.{trigger, is_issuing, is_in_back_off, is_waiting_since, frame_of}
 use Rattle.cmc_rules.specs.Readiness.{readiness, ready_condition, ready_status, is_settled, says, is_same_moment, begins_at, ends_at, renews_at}
@@ -40,9 +40,6 @@ abbrev the_status : Condition → Option ℤ → Option ℤ → Option ℤ → C
 the_status new b e r status = record status { conditions = transitioned status.conditions new; not_before = b; not_after = e; renewal = r }
 
 -- ---- issuing sees the same Secret to be written
-
-failed_same : (c later : Certificate) (r : CertificateRequest) → condition_at later.status.conditions Issuing ≡ condition_at c.status.conditions Issuing → failed_before later r ≡ failed_before c r
-failed_same c later r same = ap (is_before r.status.failure) same
 
 abbrev moved : ℕ → CertStatus → Certificate → Certificate
 moved version status c = certificate_restated version status c

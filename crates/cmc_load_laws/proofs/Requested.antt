@@ -8,23 +8,17 @@ use Rattle.std.proofs.lemmas.Bool.Decides.{Decides-eqb}
 use Rattle.std.proofs.lemmas.Slice.Eq.{bytes_eq-Decides}
 use Rattle.cmc_meta.specs.Decimals.{number_in}
 use Rattle.cmc_meta.specs.PairLists.{text_by_key, with_text}
-use Rattle.cmc_der.specs.Keys.{PublicKey, RequestFields}
-use Rattle.cmc_x509.specs.ReadKeys.{key_file_at}
-use Rattle.cmc_x509.specs.ReadCertificates.{request_fields_at}
 use Rattle.cmc_objects.specs.declared.issuer.IssuerRef.{IssuerRef}
 use Rattle.cmc_objects.specs.declared.certificate.Certificate.{Certificate}
 use Rattle.cmc_objects.specs.declared.certificate.CertSpec.{CertSpec}
 use Rattle.cmc_objects.specs.declared.request.CertificateRequest.{CertificateRequest}
-use Rattle.cmc_objects.specs.declared.request.RequestSpec.{RequestSpec}
 use Rattle.cmc_objects.specs.declared.secret.Secret.{Secret}
 use Rattle.cmc_objects.specs.Objects.{no_request_status}
 use Rattle.cmc_objects.specs.Defaults.{issuer_kind, issuer_group, certificate_duration}
-use Rattle.cmc_objects.specs.KeyPairs.{is_one_key}
 use Rattle.cmc_policies.specs.Reasons.{first_of}
 use Rattle.cmc_match.specs.Sets.{is_among, is_within}
-use Rattle.cmc_match.specs.SubjectNames.{has_names}
 use Rattle.cmc_match.specs.Facts.{key_in, fits, known_of, pair_at}
-use Rattle.cmc_match.specs.Matches.{matches, has_key, has_terms, is_same_issuer, is_same_flag, asks_for_names, is_one_of}
+use Rattle.cmc_match.specs.Matches.{has_terms, is_same_issuer, is_same_flag}
 use Rattle.cmc_match.specs.Revisions.{revision_of, revision_text, number_of, is_number, is_of_revision, only_of, next_request}
 use Rattle.cmc_pass.specs.declared.pass.Views.{Views}
 use Rattle.cmc_pass.specs.declared.pass.Desk.{Desk}
@@ -88,17 +82,6 @@ own_revision c k r marks reads =
     ∙ put_beside (with_text named (codes "cert-manager.io/certificate-revision") (decimal (next_revision c))) (codes "cert-manager.io/private-key-secret-name") k.meta.name (codes "cert-manager.io/certificate-revision") refl
     ∙ put_stands named (codes "cert-manager.io/certificate-revision") (decimal (next_revision c)) in
     ap (λ (o : Option (List ℕ)). is_number (next_revision c) (number_of o)) found ∙ ap (is_number (next_revision c)) reads ∙ (Decides-eqb (next_revision c) (next_revision c)).1 refl
-
--- where its octets are read again as they were written
-pub own_wanted : (c : Certificate) (file octets : List ℕ) (r : CertificateRequest) (key : PublicKey) (fields : RequestFields) → r.spec ≡ request_spec c.spec octets → key_file_at file ≡ Some key → request_fields_at octets ≡ Some fields
-    → has_names c.spec fields.names ≡ true → is_one_key key fields.key ≡ true → is_wanted c file r ≡ true
-unfolding matches has_key request_spec
-own_wanted c file octets r key fields spec reads again names same =
-    let octets_are : r.spec.request ≡ octets = ap (λ (s : RequestSpec). s.request) spec in
-    let read : request_fields_at r.spec.request ≡ Some fields = ap request_fields_at octets_are ∙ again in
-    and_two (matches c.spec r) (has_key r file)
-    (and_two (asks_for_names c.spec (request_fields_at r.spec.request)) (has_terms c.spec r.spec) (ap (asks_for_names c.spec) read ∙ names) (ap (has_terms c.spec) spec ∙ own_terms c.spec octets))
-    (ap (is_one_of (key_file_at file)) read ∙ ap (λ (o : Option PublicKey). is_one_of o (Some fields)) reads ∙ same)
 
 fresh_by : (a b c d : Bool) → a ≡ true → b ≡ true → c ≡ false → (a && not (not b || (c && d))) ≡ true
 fresh_by a b c d x y z = rw (x, y, z) refl

@@ -20,12 +20,6 @@ pub record WasCertificate (old : Option Object) (d : Certificate) : Type 0 where
   pub was : old ≡ Some (Cert before)
   pub later : IsLater before (Some (Cert d))
 
-no_certificate_by : (P : RequestStatus → RequestStatus → Type 0) (old : Option Object) (d : Certificate) → Changes (OfRequests P) old (Some (Cert d)) → ⊥
-no_certificate_by P None d is = is
-no_certificate_by P (Some (Cert c)) d is = is
-no_certificate_by P (Some (Request r)) d is = is
-no_certificate_by P (Some (Secret k)) d is = is
-
 none_deleted : (P : Object → Type 0) (old : Option Object) (new : Object) → DeletesWhere P old (Some new) → ⊥
 none_deleted P None new is = is
 none_deleted P (Some o) new is = is

@@ -33,7 +33,7 @@ use Rattle.cmc_pass.specs.declared.value.Value.TheVariants as values
 use Rattle.cmc_rules.specs.Acts.{act, call_after}
 use Rattle.cmc_rules.specs.IssuerAnswers.{answered, issued_condition, pending_condition, failed_condition}
 use Rattle.cmc_rules.specs.Approver as approving
-use Rattle.cmc_rules.specs.Approver.{approver, judged_after, ask_judgement, verdict_call, judged_status, approval, denied_for, verdict_by, verdict_on, verdict_of}
+use Rattle.cmc_rules.specs.Approver.{approver, judged_after, ask_judgement, verdict_call, judged_status, approval, denied_for, verdict_by, verdict_of}
 use Rattle.cmc_rules.specs.Issuer as granting
 use Rattle.cmc_rules.specs.Issuer.{issuer, answered_after, ask_issuer}
 use Rattle.cmc_rules.specs.KeyManager as keys

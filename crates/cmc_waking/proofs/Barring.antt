@@ -6,11 +6,10 @@ use Rattle.cmc_meta.specs.declared.key.Kind.{Kind}
 use Rattle.cmc_meta.specs.declared.key.Kind.TheVariants as kinds
 use Rattle.cmc_objects.specs.declared.entry.Positions.{Positions}
 use Rattle.cmc_queue.specs.declared.row.Parked.{Parked}
-use Rattle.cmc_rules.specs.declared.progress.Ending.{Ending}
 use Rattle.cmc_rules.specs.declared.progress.Ending.TheVariants as endings
-use Rattle.cmc_rules.specs.declared.progress.Obstacle.TheVariants.{Failure, Newer}
+use Rattle.cmc_rules.specs.declared.progress.Obstacle.TheVariants.{Newer}
 use Rattle.cmc_rules.specs.Positions.{position_of}
-use Rattle.cmc_waking.specs.Parked.{ahead, obstacle_ahead, own_ahead}
+use Rattle.cmc_waking.specs.Parked.{ahead, own_ahead}
 use Rattle.cmc_waking.specs.WakeUps.{IsStoppedAt}
 
 -- the role is not yet told of it
@@ -23,14 +22,6 @@ IsOwn own o = IfSome o (λ p. p.version ≤ position_of p.kind own)
 behind_by : (b : Bool) (kind : Kind) (version : ℕ) (at : Positions) (rest : Option Parked) → nat_lt (position_of kind at) version ≡ b → IsBehind at rest → IsBehind at (if b then Some (record { kind = kind; version = version }) else rest)
 behind_by true kind version at rest test others = ltb-true (position_of kind at) version test
 behind_by false kind version at rest test others = others
-
-pub behind_is : (kind : Kind) (version : ℕ) (at : Positions) (rest : Option Parked) → IsBehind at rest → IsBehind at (ahead kind version at rest)
-behind_is kind version at rest others = behind_by (nat_lt (position_of kind at) version) kind version at rest refl others
-
-pub own_behind : (own at : Positions) → IsBehind at (own_ahead own at)
-own_behind own at =
-    behind_is kinds.Certificate own.certificates at (ahead kinds.CertificateRequest own.requests at (ahead kinds.Secret own.secrets at None))
-    (behind_is kinds.CertificateRequest own.requests at (ahead kinds.Secret own.secrets at None) (behind_is kinds.Secret own.secrets at None tt))
 
 own_by : (b : Bool) (own : Positions) (kind : Kind) (version : ℕ) (rest : Option Parked) → version ≤ position_of kind own → IsOwn own rest → IsOwn own (if b then Some (record { kind = kind; version = version }) else rest)
 own_by true own kind version rest low others = low
@@ -45,20 +36,6 @@ own_is own at =
     (own_by (nat_lt at.requests own.requests) own kinds.CertificateRequest own.requests (ahead kinds.Secret own.secrets at None) (itself own.requests)
     (own_by (nat_lt at.secrets own.secrets) own kinds.Secret own.secrets None (itself own.secrets) tt))
 
-pub obstacle_behind : (ending : Ending) (at : Positions) → IsBehind at (obstacle_ahead ending at)
-obstacle_behind (endings.Refused (Newer kind version)) at = behind_is kind version at None tt
-obstacle_behind (endings.Refused Failure) at = tt
-obstacle_behind endings.Open at = tt
-obstacle_behind endings.Nothing at = tt
-obstacle_behind endings.Wrote at = tt
-
 stopped_by : (b : Bool) (kind : Kind) (version : ℕ) → IfSome (if b then Some (record { kind = kind; version = version }) else None) (IsStoppedAt (endings.Refused (Newer kind version)))
 stopped_by true kind version = (refl, refl)
 stopped_by false kind version = tt
-
-pub obstacle_stopped : (ending : Ending) (at : Positions) → IfSome (obstacle_ahead ending at) (IsStoppedAt ending)
-obstacle_stopped (endings.Refused (Newer kind version)) at = stopped_by (nat_lt (position_of kind at) version) kind version
-obstacle_stopped (endings.Refused Failure) at = tt
-obstacle_stopped endings.Open at = tt
-obstacle_stopped endings.Nothing at = tt
-obstacle_stopped endings.Wrote at = tt

@@ -78,9 +78,6 @@ pub record IsGone (f : Row → Row) (first queues : List Work) (n : ℕ) : Type 
   pub done : (j : ℕ) → j < n → ChangesRows f (get_or first j no_queue) (get_or queues j no_queue)
   pub left : (j : ℕ) → n ≤ j → get_or queues j no_queue ≡ get_or first j no_queue
 
-pub gone_first : (f : Row → Row) (queues : List Work) → IsGone f queues queues 0
-gone_first f queues = record { done = λ j low. absurd (omega (arith, low)); left = λ j from. refl }
-
 done_more : (b : Bool) (f : Row → Row) (first queues : List Work) (i j : ℕ) (queue new : Work) → (j == i) ≡ b → IsGone f first queues i → i < length queues → queue ≡ get_or queues i no_queue → ChangesRows f queue new → j < i + 1
     → ChangesRows f (get_or first j no_queue) (get_or (set queues i new) j no_queue)
 done_more true f first queues i j queue new e gone low read changed below =

@@ -1,5 +1,5 @@
 -- Several calls of one queue, one after another.
-use Rattle.std.proofs.Common.{◌≡◌, ◌<◌, ℕ, ℤ, List, [], ◌∷◌, ◌++◌, length, get_or, take, zero, suc, Option, Some, None, Bool, true, false, inl, inr, refl, sym, ap, subst, ◌∙◌, arith}
+use Rattle.std.proofs.Common.{◌≡◌, ◌<◌, ℕ, ℤ, List, [], ◌∷◌, ◌++◌, length, get_or, zero, suc, Option, Some, None, Bool, true, false, inl, inr, refl, sym, ap, subst, ◌∙◌, arith}
 use Rattle.std.proofs.lemmas.List.Folds.{list_any-append}
 use Rattle.std.specs.BTreeMap.{is_at}
 use Rattle.std.specs.Cmp.{tied_itself}
@@ -9,7 +9,6 @@ use Rattle.cmc_meta.specs.declared.key.Key.{Key}
 use Rattle.cmc_meta.specs.Keys.{key_cmp, key_eq}
 use Rattle.cmc_meta.proofs.KeyOrder.{key_cmp-total}
 use Rattle.cmc_objects.specs.declared.entry.Positions.{Positions}
-use Rattle.cmc_queue.specs.declared.row.Parked.{Parked}
 use Rattle.cmc_queue.specs.declared.row.Row.{Row}
 use Rattle.cmc_queue.specs.Rows.{added, row_in}
 use Rattle.cmc_queue.specs.Queues.{has_room, row_of, ChangesRow, KeepsRoom, Work}
@@ -19,7 +18,7 @@ use Rattle.cmc_rules.specs.declared.progress.Ending.{Ending}
 use Rattle.cmc_rules.specs.declared.progress.Ending.TheVariants as endings
 use Rattle.cmc_waking.specs.Feeds.{added_if}
 use Rattle.cmc_waking.specs.Parked.{obstacle_ahead, waits_for}
-use Rattle.cmc_waking.specs.Queues.{HasPlaceAt, HasPlaceFor, HasRooms, WakesSome}
+use Rattle.cmc_waking.specs.Queues.{HasPlaceAt, HasRooms, WakesSome}
 
 -- ---- one row, twice
 
@@ -34,10 +33,6 @@ changes_twice f g key a b c one two k = twice_by (key_eq key k) f g (row_of a k)
 same_by : (b : Bool) (row : Row) → row ≡ (if b then row else row)
 same_by true row = refl
 same_by false row = refl
-
--- nothing changes
-pub changes_nothing : (key : Key) (a : Work) → ChangesRow (λ row. row) key a a
-changes_nothing key a k = same_by (key_eq key k) (row_of a k)
 
 -- ---- room
 
@@ -54,10 +49,6 @@ room_stays a = record { rows = λ k has. has; moments = λ at k has. has; versio
 pub place_at_stays : (next : Option ℤ) (key : Key) (a b : Work) → KeepsRoom a b → HasPlaceAt next key a → HasPlaceAt next key b
 place_at_stays None key a b kept has = tt
 place_at_stays (Some at) key a b kept has = kept.moments at key has
-
-pub place_for_stays : (parked : Option Parked) (key : Key) (a b : Work) → KeepsRoom a b → HasPlaceFor parked key a → HasPlaceFor parked key b
-place_for_stays None key a b kept has = tt
-place_for_stays (Some p) key a b kept has = kept.versions p.kind p.version key has
 
 -- ---- each of a list of keys
 
@@ -137,7 +128,3 @@ rooms_by false false key k queue is has before among = absurd (cc among)
 pub rooms_more : (keys more : List Key) (key : Key) (old new : Work) → more ≡ keys ++ key ∷ [] → HasRooms keys old → KeepsRoom old new → has_room new key ≡ true → HasRooms more new
 rooms_more keys more key old new is each kept has k among =
     rooms_by (is_among keys k) (is_eq (key_cmp k key)) key k new refl has (λ on. kept.rows k (each k on)) (sym (ap (λ (l : List Key). is_among l k) is ∙ list_any-append (is_at (key_cmp k)) keys (key ∷ [])) ∙ among)
-
--- all of them, where the whole list was gone through
-pub rooms_all : (keys : List Key) (n : ℕ) (queue : Work) → take n keys ≡ keys → HasRooms (take n keys) queue → HasRooms keys queue
-rooms_all keys n queue whole each = subst (λ (l : List Key). HasRooms l queue) whole each

@@ -134,10 +134,6 @@ stop_cases : (b : Bool) (s : Setting) (h : List Entry) (role r : Role) (k : Key)
 stop_cases true s h role r k n is before = owner_stopped_self role r k (open_pass s h n) is
 stop_cases false s h role r k n is before = owner_stopped role r k (open_pass s h n) is ∙ before refl
 
-running_before : (b : Bool) (before : Bool) → b ≡ false → (if b then true else before) ≡ false → before ≡ false
-running_before true before is off = absurd (cc is)
-running_before false before is off = off
-
 started_off : (b before : Bool) → (if b then true else before) ≡ false → before ≡ false
 started_off true before off = absurd (cc off)
 started_off false before off = off

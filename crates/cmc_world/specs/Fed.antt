@@ -1,5 +1,5 @@
 -- What a world keeps of its work queues, and what is known before a move of what the move does to them.
-use Rattle.std.specs.Prelude.{◌≡◌, ◌↔◌, ◌≤◌, ℕ, ℤ, ◌+◌, IsTrue, Bool, true, false, ◌&&◌, List, [], ◌∷◌, Option, Some, None, is_none, int_le, nat_le, if◌then◌else◌}
+use Rattle.std.specs.Prelude.{◌≡◌, ◌↔◌, ◌≤◌, ℕ, ℤ, ◌+◌, Bool, true, false, ◌&&◌, List, [], ◌∷◌, Option, Some, None, is_none, int_le, nat_le, if◌then◌else◌}
 use Rattle.std.specs.List.{list_any}
 use Rattle.cmc_meta.specs.declared.key.Key.{Key}
 use Rattle.cmc_meta.specs.declared.key.Kind.{Kind}
@@ -10,7 +10,6 @@ use Rattle.cmc_objects.specs.declared.role.Role.{Role}
 use Rattle.cmc_objects.specs.Informers.{has_informer, kind_of_work}
 use Rattle.cmc_queue.specs.Queues.{has_room, row_of, ChangesRow, ChangesRows, Work}
 use Rattle.cmc_queue.specs.declared.row.Found.TheVariants as found
-use Rattle.cmc_queue.specs.declared.row.Row.{Row}
 use Rattle.cmc_queue.specs.Rows.{no_row, ticked}
 use Rattle.cmc_model.specs.declared.write.Write.{Write}
 use Rattle.cmc_model.specs.Histories.{Setting, accepted, moment}
@@ -21,7 +20,7 @@ use Rattle.cmc_rules.specs.Legality.{IsOpen}
 use Rattle.cmc_rules.specs.declared.progress.Ending.{Ending}
 use Rattle.cmc_rules.specs.declared.progress.Ending.TheVariants as endings
 use Rattle.cmc_rules.specs.Memory.{ending_of, past}
-use Rattle.cmc_rules.specs.Passes.{is_pass_of, open_pass, IsWorking}
+use Rattle.cmc_rules.specs.Passes.{is_pass_of, open_pass}
 use Rattle.cmc_rules.specs.Positions.{position, positions}
 use Rattle.cmc_rules.specs.Views.{views}
 use Rattle.cmc_caches.specs.Affected.{is_among}
