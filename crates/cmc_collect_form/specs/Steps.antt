@@ -17,53 +17,50 @@ use Rattle.cmc_collect_form.specs.declared.script.CollectStep.TheVariants.{Apply
 abbrev pub collect_apply_at : Data → Read CollectStep
 collect_apply_at d = objects.applied_at d >>= (λ applied. Ok (Apply applied.object applied.version))
 
+-- The member of that name, which comes next after `do`, and the members that are left.
+unfoldable pub after_word : List ℕ → List Field → Read (Data × List Field)
+after_word name fs = required_at (codes "do") fs >>= (λ word. required_at name word.1)
+
+-- What was read, where no member is left.
+unfoldable pub at_last : {A : Type 0} → List Field → Read A → Read A
+at_last fs read = read >>= (λ x. at_end fs >>= (λ end. Ok x))
+
 -- `apply` has an object.
 unfoldable pub apply_in : List Field → Read CollectStep
 apply_in fs = do
-  word ← required_at (codes "do") fs
-  given ← required_at (codes "object") word.1
-  step ← under (codes "object") (collect_apply_at given.0)
-  end ← at_end given.1
-  Ok step
+  given ← after_word (codes "object") fs
+  at_last given.1 (under (codes "object") (collect_apply_at given.0))
 
 -- `delete` has a key, and may name a version.
 unfoldable pub delete_in : List Field → Read CollectStep
 delete_in fs = do
-  word ← required_at (codes "do") fs
-  given ← required_at (codes "key") word.1
+  given ← after_word (codes "key") fs
   key ← under (codes "key") (key_at given.0)
   version ← optional_at (codes "version") given.1
-  named ← member_option (codes "version") count_at version.0
-  end ← at_end version.1
+  named ← at_last version.1 (member_option (codes "version") count_at version.0)
   Ok (Delete key named)
 
 -- `tick` has 1 to 1,000,000,000 seconds.
 unfoldable pub tick_in : List Field → Read CollectStep
 tick_in fs = do
-  word ← required_at (codes "do") fs
-  given ← required_at (codes "seconds") word.1
-  seconds ← under (codes "seconds") (bounded_at 1 1000000000 given.0)
-  end ← at_end given.1
+  given ← after_word (codes "seconds") fs
+  seconds ← at_last given.1 (under (codes "seconds") (bounded_at 1 1000000000 given.0))
   Ok (Tick seconds)
 
 -- `deliver` has a kind and a version.
 unfoldable pub deliver_in : List Field → Read CollectStep
 deliver_in fs = do
-  word ← required_at (codes "do") fs
-  given ← required_at (codes "kind") word.1
+  given ← after_word (codes "kind") fs
   kind ← under (codes "kind") (kind_at given.0)
   last ← required_at (codes "to") given.1
-  to ← under (codes "to") (count_at last.0)
-  end ← at_end last.1
+  to ← at_last last.1 (under (codes "to") (count_at last.0))
   Ok (Deliver kind to)
 
 -- `examine` has a key.
 unfoldable pub examine_in : List Field → Read CollectStep
 examine_in fs = do
-  word ← required_at (codes "do") fs
-  given ← required_at (codes "key") word.1
-  key ← under (codes "key") (key_at given.0)
-  end ← at_end given.1
+  given ← after_word (codes "key") fs
+  key ← at_last given.1 (under (codes "key") (key_at given.0))
   Ok (Examine key)
 
 -- `settle` has nothing else.

@@ -9,7 +9,6 @@ use std::alloc::{AllocError, Global};
 use std::marker::Model;
 
 /// One step.
-#[derive(Drop)]
 pub enum CollectStep {
     /// Creates the object, or updates it where its key is taken; with a version it is an update that names it.
     Apply {
@@ -36,6 +35,28 @@ pub enum CollectStep {
     },
     /// Tells all caches and examines whatever is due, until nothing is left to do.
     Settle,
+}
+
+impl Drop for CollectStep {
+    fn drop(self) {
+        match self {
+            CollectStep::Apply {
+                object: _object,
+                version: _version,
+            } => {}
+            CollectStep::Delete {
+                key: _key,
+                version: _version,
+            } => {}
+            CollectStep::Tick { seconds: _seconds } => {}
+            CollectStep::Deliver {
+                kind: _kind,
+                to: _to,
+            } => {}
+            CollectStep::Examine { key: _key } => {}
+            CollectStep::Settle => {}
+        }
+    }
 }
 
 // 9900-01-01T00:00:00Z

@@ -1,9 +1,9 @@
 // One step of owner collection.
 ghost use Rattle.std.specs.Prelude.{◌≡◌, map, option_map};
 ghost use Rattle.serde_json.specs.View.{view};
-ghost use Rattle.cmc_cursor.specs.Members.{Gives};
+ghost use Rattle.cmc_cursor.specs.Members.{Gives, Read};
 ghost use Rattle.cmc_cursor.specs.Seen.{shown};
-ghost use Rattle.cmc_collect_form.specs.Steps.{collect_apply_at, apply_in, delete_in, deliver_in, examine_in, settle_in, collect_step_at, step_in, stray_in, tick_in};
+ghost use Rattle.cmc_collect_form.specs.Steps.{after_word, at_last, collect_apply_at, apply_in, delete_in, deliver_in, examine_in, settle_in, collect_step_at, step_in, stray_in, tick_in};
 
 use crate::script::CollectStep;
 use cmc_codec::{Applied, applied_of};
@@ -24,27 +24,49 @@ fn applied(alloc: Global, value: &Value) -> Result<CollectStep, BadField>
     Ok(CollectStep::Apply { object, version })
 }
 
+/// The member of that name, which has to come next after `do`, and the members after it.
+#[tactic(auto, unfolding(crate::specs::Steps::after_word))]
+fn after_word<'a, 'b>(
+    alloc: Global,
+    rest: Fields<'a, 'b>,
+    name: &str,
+) -> Result<(&'a Value, Fields<'a, 'b>), BadField>
+    ensures { Gives (λ p. (view p.0.now, map shown p.1.now)) result (after_word name.now (map shown rest.now)) }
+{
+    let (_, rest) = required(alloc, rest, "do")?;
+    required(alloc, rest, name)
+}
+
+/// What was read, where no member is left.
+#[tactic(auto, unfolding(crate::specs::Steps::at_last))]
+fn last<T: Drop>(
+    alloc: Global,
+    rest: Fields<'_, '_>,
+    found: Result<T, BadField>,
+) -> Result<T, BadField>
+    ensures { (read : Read T) → Gives (λ t. t) found read → Gives (λ t. t) result (at_last (map shown rest.now) read) }
+{
+    let value = found?;
+    check_end(alloc, rest)?;
+    Ok(value)
+}
+
 #[tactic(auto, unfolding(crate::specs::Steps::apply_in))]
 fn apply(alloc: Global, rest: Fields<'_, '_>) -> Result<CollectStep, BadField>
     ensures { Gives (λ t. t) result (apply_in (map shown rest.now)) }
 {
-    let (_, rest) = required(alloc, rest, "do")?;
-    let (given, rest) = required(alloc, rest, "object")?;
-    let step = at(alloc, "object", applied(alloc, given))?;
-    check_end(alloc, rest)?;
-    Ok(step)
+    let (given, rest) = after_word(alloc, rest, "object")?;
+    last(alloc, rest, at(alloc, "object", applied(alloc, given)))
 }
 
 #[tactic(auto, unfolding(crate::specs::Steps::delete_in))]
 fn delete(alloc: Global, rest: Fields<'_, '_>) -> Result<CollectStep, BadField>
     ensures { Gives (λ t. t) result (delete_in (map shown rest.now)) }
 {
-    let (_, rest) = required(alloc, rest, "do")?;
-    let (given, rest) = required(alloc, rest, "key")?;
+    let (given, rest) = after_word(alloc, rest, "key")?;
     let key = at(alloc, "key", key(alloc, given))?;
     let (given, rest) = optional(alloc, rest, "version")?;
-    let version = count_option(alloc, "version", given)?;
-    check_end(alloc, rest)?;
+    let version = last(alloc, rest, count_option(alloc, "version", given))?;
     Ok(CollectStep::Delete { key, version })
 }
 
@@ -52,10 +74,9 @@ fn delete(alloc: Global, rest: Fields<'_, '_>) -> Result<CollectStep, BadField>
 fn tick(alloc: Global, rest: Fields<'_, '_>) -> Result<CollectStep, BadField>
     ensures { Gives (λ t. t) result (tick_in (map shown rest.now)) }
 {
-    let (_, rest) = required(alloc, rest, "do")?;
-    let (given, rest) = required(alloc, rest, "seconds")?;
-    let seconds = at(alloc, "seconds", bounded(alloc, given, 1, LONGEST_TICK))?;
-    check_end(alloc, rest)?;
+    let (given, rest) = after_word(alloc, rest, "seconds")?;
+    let found = at(alloc, "seconds", bounded(alloc, given, 1, LONGEST_TICK));
+    let seconds = last(alloc, rest, found)?;
     Ok(CollectStep::Tick { seconds })
 }
 
@@ -63,12 +84,10 @@ fn tick(alloc: Global, rest: Fields<'_, '_>) -> Result<CollectStep, BadField>
 fn deliver(alloc: Global, rest: Fields<'_, '_>) -> Result<CollectStep, BadField>
     ensures { Gives (λ t. t) result (deliver_in (map shown rest.now)) }
 {
-    let (_, rest) = required(alloc, rest, "do")?;
-    let (given, rest) = required(alloc, rest, "kind")?;
+    let (given, rest) = after_word(alloc, rest, "kind")?;
     let kind = at(alloc, "kind", kind(alloc, given))?;
     let (given, rest) = required(alloc, rest, "to")?;
-    let to = at(alloc, "to", count(alloc, given))?;
-    check_end(alloc, rest)?;
+    let to = last(alloc, rest, at(alloc, "to", count(alloc, given)))?;
     Ok(CollectStep::Deliver { kind, to })
 }
 
@@ -76,10 +95,8 @@ fn deliver(alloc: Global, rest: Fields<'_, '_>) -> Result<CollectStep, BadField>
 fn examine(alloc: Global, rest: Fields<'_, '_>) -> Result<CollectStep, BadField>
     ensures { Gives (λ t. t) result (examine_in (map shown rest.now)) }
 {
-    let (_, rest) = required(alloc, rest, "do")?;
-    let (given, rest) = required(alloc, rest, "key")?;
-    let key = at(alloc, "key", key(alloc, given))?;
-    check_end(alloc, rest)?;
+    let (given, rest) = after_word(alloc, rest, "key")?;
+    let key = last(alloc, rest, at(alloc, "key", key(alloc, given)))?;
     Ok(CollectStep::Examine { key })
 }
 

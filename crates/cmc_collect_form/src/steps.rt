@@ -1,5 +1,5 @@
 // The steps of a script of owner collection.
-ghost use Rattle.std.specs.Prelude.{◌≡◌, IfOk, int_le, true};
+ghost use Rattle.std.specs.Prelude.{◌≡◌, ◌∷◌, [], Err, IfOk, decimal, int_le, true};
 ghost use Rattle.serde_json.specs.View.{view, items_view};
 ghost use Rattle.cmc_cursor.specs.Members.{Gives};
 ghost use Rattle.cmc_cursor.specs.Seen.{shown_option};
@@ -15,6 +15,13 @@ use std::alloc::Global;
 
 const MOST_STEPS: usize = 10_000;
 
+/// The failure of the step at that place as a whole.
+fn failing_step(alloc: Global, place: usize) -> Result<(CollectStep, i64), BadField>
+    ensures { Gives (λ p. p.0) result (Err (decimal place ∷ [])) }
+{
+    Err(BadField::Path(path_to_place(alloc, place)?))
+}
+
 #[tactic(auto, unfolding(crate::specs::Steps::numbered_step_at))]
 fn numbered_step(
     alloc: Global,
@@ -26,12 +33,12 @@ fn numbered_step(
     ensures next { IfOk result (λ p. (int_le (spec.moment_after now p.0) last_moment ≡ true) × (p.1 ≡ spec.moment_after now p.0)) }
 {
     if place >= MOST_STEPS {
-        return Err(BadField::Path(path_to_place(alloc, place)?));
+        return failing_step(alloc, place);
     }
     let step = at_place(alloc, place, step(alloc, value))?;
     match step.after(now) {
         Some(next) => Ok((step, next)),
-        None => Err(BadField::Path(path_to_place(alloc, place)?)),
+        None => failing_step(alloc, place),
     }
 }
 

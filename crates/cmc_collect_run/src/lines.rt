@@ -1,42 +1,16 @@
 //! The entries of a collection as lines.
 ghost use Rattle.std.specs.Prelude.{◌≡◌, [], Some, codes, IfOk, OnOk, string_bytes};
-ghost use Rattle.cmc_meta.specs.declared.key.Key.{Key as KeyValue};
-ghost use Rattle.cmc_objects.specs.declared.call.Call.TheVariants as calls;
 ghost use Rattle.cmc_print.specs.Trees.{line_of};
-ghost use Rattle.cmc_collector.specs.Replays as playing;
 ghost use Rattle.cmc_collect_run.specs.Printed.{collect_tree, count_rows, counts_tree, entry_tree, deletes, told_rows, told_tree};
 ghost use Rattle.cmc_writer.specs.Additions.{with_row, with_rows, with_value};
 
+use cmc_collect_moves::{delete_of, get_of};
 use cmc_collector::CollectEntry;
-use cmc_meta::{Key, Kind, OwnerRef};
-use cmc_objects::Call;
+use cmc_meta::Kind;
 use cmc_print::kind_word;
 use cmc_report::write_call_by;
 use cmc_writer::Printer;
 use std::alloc::{AllocError, Global};
-
-/// The read of the owner of the object of this key.
-fn look_of(key: &Key, owner: &OwnerRef) -> Result<Call, AllocError>
-    ensures { IfOk result (λ call. call ≡ calls.Get (playing.owner_key key.now.namespace owner.now)) }
-{
-    Ok(Call::Get {
-        key: Key {
-            kind: owner.kind,
-            namespace: key.namespace.copy()?,
-            name: owner.name.copy()?,
-        },
-    })
-}
-
-/// The delete of the key's object at this version.
-fn delete_of(key: &Key, version: u64) -> Result<Call, AllocError>
-    ensures { IfOk result (λ call. call ≡ calls.Delete key.now (Some version)) }
-{
-    Ok(Call::Delete {
-        key: key.copy()?,
-        version: Some(version),
-    })
-}
 
 fn add_told(
     printer: &mut Printer,
@@ -84,7 +58,7 @@ fn write_entry(
         CollectEntry::Deliver { kind, to } => write_told(printer, "deliver", number, *kind, *to),
         CollectEntry::List { kind, to } => write_told(printer, "list", number, *kind, *to),
         CollectEntry::Look { key, owner, reply } => {
-            let call = look_of(key, owner)?;
+            let call = get_of(&key.namespace, owner)?;
             write_call_by(printer, alloc, number, "collector", &call, reply)
         }
         CollectEntry::Delete {

@@ -12,18 +12,12 @@ use serde_json::Value;
 use std::alloc::{AllocError, Global};
 
 #[tactic(auto, unfolding(crate::specs::Printed::is_deletion))]
-fn is_deletion(moment: &Moment) -> bool
-    ensures { result ≡ is_deletion moment.entry.now }
-{
-    deletes(&moment.entry)
-}
-
 fn deletions(moments: &[Moment]) -> u64
     ensures { result ≡ count_by is_deletion moments.now }
 {
     let mut count = 0u64;
     for moment in moments {
-        if is_deletion(moment) {
+        if deletes(&moment.entry) {
             count += 1;
         }
     }

@@ -1,5 +1,4 @@
 //! The examination of one object.
-ghost use Rattle.std.specs.Option.{option_copied};
 ghost use Rattle.std.specs.Prelude.{◌≡◌, ◌+◌, ◌<◌, ◌^◌, IfOk};
 ghost use Rattle.cmc_collector.specs.Examinations as spec;
 ghost use Rattle.cmc_objects.specs.Objects.{version_of};
@@ -39,18 +38,11 @@ impl Examination {
         self.object.meta().version
     }
 
-    /// The owner that is looked for next; `None` where each was looked for.
-    pub(crate) fn next_owner(&self) -> Option<&OwnerRef>
-        ensures { option_copied result ≡ spec.next_owner self.now }
-    {
-        self.object.meta().owners.as_slice().get(self.next as usize)
-    }
-
     /// A copy of the owner that is looked for next; `None` where each was looked for.
     pub(crate) fn copy_next_owner(&self) -> Result<Option<OwnerRef>, AllocError>
         ensures { IfOk result (λ owner. owner ≡ spec.next_owner self.now) }
     {
-        match self.next_owner() {
+        match self.object.meta().owners.as_slice().get(self.next as usize) {
             Some(owner) => Ok(Some(owner.copy()?)),
             None => Ok(None),
         }
