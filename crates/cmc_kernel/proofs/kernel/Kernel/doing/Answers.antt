@@ -1,5 +1,7 @@
 use Rattle.std.proofs.Common.{◌≡◌, ◌∙◌, ap, refl, sym, subst, IfOk, Some, ℕ}
 use Rattle.cmc_pass.specs.declared.pass.Desk.{Desk}
+use Rattle.cmc_pass.specs.declared.pass.Views.{Views}
+use Rattle.cmc_held.specs.Questioned.{asked_for}
 use Rattle.cmc_rules.specs.Acts.{act, call_after}
 use Rattle.cmc_rules.specs.Desks.{desk}
 use Rattle.cmc_rules.specs.Passes.{open_pass}
@@ -47,7 +49,7 @@ doing_of-requires-then-asked-eq0-clause-acts c =
     let s = setting_of c.self.inside.scenario in
     may_on s c.self.inside.history.entries c.args.pass c.args.current.now c.self.inside.desk held.formed (run_of _ _ _ c.self.invariant)
     (subst (λ (v : Seen). on open_pass v c.args.pass ≡ Some c.args.current.now) (sym c.self.view_is) c.requires.opened)
-    (desk_is s c.self.inside.history.entries c.args.current.now.role c.args.current.now.seen c.self.inside.questions c.self.inside.desk c.in_ok-asked.asked held.keys_asked held.answers_asked c.in_ok-asked.ensures
+    (desk_is s c.self.inside.history.entries c.args.current.now.role c.args.current.now.seen c.self.inside.questions c.self.inside.desk c.in_ok-asked.asked held.keys_asked held.answers_asked (c.in_ok-asked.ensures ∙ ap (λ (v : Views). asked_for c.self.inside.questions c.args.current.now.role v) c.deref.ensures)
     (held.desk ∙ ap (λ (m : ℕ). record (first_desk s) { asked = m }) (sym c.if-asked-eq0.true)))
 
 pub doing_of-requires-then-asked-eq0-clause-own : goal.doing_of-requires-then-asked-eq0-clause-own
@@ -61,7 +63,7 @@ doing_of-requires-then-asked-eq0-clause-goes c =
     let s = setting_of c.self.inside.scenario in
     next_on s c.self.inside.history.entries c.args.pass c.args.current.now c.self.inside.desk (run_of _ _ _ c.self.invariant)
     (subst (λ (v : Seen). on open_pass v c.args.pass ≡ Some c.args.current.now) (sym c.self.view_is) c.requires.opened) c.requires.free
-    (desk_is s c.self.inside.history.entries c.args.current.now.role c.args.current.now.seen c.self.inside.questions c.self.inside.desk c.in_ok-asked.asked held.keys_asked held.answers_asked c.in_ok-asked.ensures
+    (desk_is s c.self.inside.history.entries c.args.current.now.role c.args.current.now.seen c.self.inside.questions c.self.inside.desk c.in_ok-asked.asked held.keys_asked held.answers_asked (c.in_ok-asked.ensures ∙ ap (λ (v : Views). asked_for c.self.inside.questions c.args.current.now.role v) c.deref.ensures)
     (held.desk ∙ ap (λ (m : ℕ). record (first_desk s) { asked = m }) (sym c.if-asked-eq0.true)))
 
 pub returns-then-asked-eq0 : goal.returns-then-asked-eq0
@@ -71,7 +73,7 @@ returns-then-asked-eq0 c =
     let p = c.args.current.now in
     subst (λ (v : Seen). IfOk c.doing_of-then-asked-eq0.result (λ d. IsDoingBy p.stage (act p.role p.seen p.since (on desk v p.role p.seen)) (call_after p.role p.seen p.since) d)) c.self.view_is
     (doing_on s c.self.inside.history.entries p c.self.inside.desk c.doing_of-then-asked-eq0.result
-    (desk_is s c.self.inside.history.entries p.role p.seen c.self.inside.questions c.self.inside.desk c.in_ok-asked.asked held.keys_asked held.answers_asked c.in_ok-asked.ensures
+    (desk_is s c.self.inside.history.entries p.role p.seen c.self.inside.questions c.self.inside.desk c.in_ok-asked.asked held.keys_asked held.answers_asked (c.in_ok-asked.ensures ∙ ap (λ (v : Views). asked_for c.self.inside.questions c.args.current.now.role v) c.deref.ensures)
     (held.desk ∙ ap (λ (m : ℕ). record (first_desk s) { asked = m }) (sym c.if-asked-eq0.true)))
     c.doing_of-then-asked-eq0.ensures)
 
@@ -81,7 +83,7 @@ doing_of-requires-2-clause-acts c =
     let s = setting_of c.self.inside.scenario in
     may_on s c.self.inside.history.entries c.args.pass c.args.current.now (record { material = c.in_ok-copy.field-0; asked = c.in_ok-asked.asked; rules = c.in_ok-copy-2.field-0 }) held.formed (run_of _ _ _ c.self.invariant)
     (subst (λ (v : Seen). on open_pass v c.args.pass ≡ Some c.args.current.now) (sym c.self.view_is) c.requires.opened)
-    (desk_is s c.self.inside.history.entries c.args.current.now.role c.args.current.now.seen c.self.inside.questions _ c.in_ok-asked.asked held.keys_asked held.answers_asked c.in_ok-asked.ensures
+    (desk_is s c.self.inside.history.entries c.args.current.now.role c.args.current.now.seen c.self.inside.questions _ c.in_ok-asked.asked held.keys_asked held.answers_asked (c.in_ok-asked.ensures ∙ ap (λ (v : Views). asked_for c.self.inside.questions c.args.current.now.role v) c.deref.ensures)
     (λ i. record { material = (c.in_ok-copy.ensures ∙ ap (λ (x : Desk). x.material) held.desk) i; asked = c.in_ok-asked.asked; rules = (c.in_ok-copy-2.ensures ∙ ap (λ (x : Desk). x.rules) held.desk) i }))
 
 pub doing_of-requires-2-clause-own : goal.doing_of-requires-2-clause-own
@@ -95,7 +97,7 @@ doing_of-requires-2-clause-goes c =
     let s = setting_of c.self.inside.scenario in
     next_on s c.self.inside.history.entries c.args.pass c.args.current.now (record { material = c.in_ok-copy.field-0; asked = c.in_ok-asked.asked; rules = c.in_ok-copy-2.field-0 }) (run_of _ _ _ c.self.invariant)
     (subst (λ (v : Seen). on open_pass v c.args.pass ≡ Some c.args.current.now) (sym c.self.view_is) c.requires.opened) c.requires.free
-    (desk_is s c.self.inside.history.entries c.args.current.now.role c.args.current.now.seen c.self.inside.questions _ c.in_ok-asked.asked held.keys_asked held.answers_asked c.in_ok-asked.ensures
+    (desk_is s c.self.inside.history.entries c.args.current.now.role c.args.current.now.seen c.self.inside.questions _ c.in_ok-asked.asked held.keys_asked held.answers_asked (c.in_ok-asked.ensures ∙ ap (λ (v : Views). asked_for c.self.inside.questions c.args.current.now.role v) c.deref.ensures)
     (λ i. record { material = (c.in_ok-copy.ensures ∙ ap (λ (x : Desk). x.material) held.desk) i; asked = c.in_ok-asked.asked; rules = (c.in_ok-copy-2.ensures ∙ ap (λ (x : Desk). x.rules) held.desk) i }))
 
 pub returns : goal.returns
@@ -105,6 +107,6 @@ returns c =
     let p = c.args.current.now in
     subst (λ (v : Seen). IfOk c.doing_of-2.result (λ d. IsDoingBy p.stage (act p.role p.seen p.since (on desk v p.role p.seen)) (call_after p.role p.seen p.since) d)) c.self.view_is
     (doing_on s c.self.inside.history.entries p (record { material = c.in_ok-copy.field-0; asked = c.in_ok-asked.asked; rules = c.in_ok-copy-2.field-0 }) c.doing_of-2.result
-    (desk_is s c.self.inside.history.entries p.role p.seen c.self.inside.questions _ c.in_ok-asked.asked held.keys_asked held.answers_asked c.in_ok-asked.ensures
+    (desk_is s c.self.inside.history.entries p.role p.seen c.self.inside.questions _ c.in_ok-asked.asked held.keys_asked held.answers_asked (c.in_ok-asked.ensures ∙ ap (λ (v : Views). asked_for c.self.inside.questions c.args.current.now.role v) c.deref.ensures)
     (λ i. record { material = (c.in_ok-copy.ensures ∙ ap (λ (x : Desk). x.material) held.desk) i; asked = c.in_ok-asked.asked; rules = (c.in_ok-copy-2.ensures ∙ ap (λ (x : Desk). x.rules) held.desk) i }))
     c.doing_of-2.ensures)
