@@ -4,9 +4,10 @@ ghost use Rattle.serde_json.specs.View.{view};
 ghost use Rattle.serde_json.specs.Written.{has_float};
 ghost use Rattle.cmc_cursor.specs.Members.{Gives};
 ghost use Rattle.cmc_cursor.specs.Seen.{shown};
-ghost use Rattle.cmc_collect_form.specs.Collections.{CollectionFailsAt, IsInTime, IsReading, collect_at, collection_in, members_at, collection_whole_at};
+ghost use Rattle.cmc_collect_form.specs.Collections.{CollectionFailsAt, IsInTime, IsReading, collect_at, collection_in, ending_in, size_in, members_at, collection_whole_at};
+ghost use Rattle.cmc_collect_form.specs.Steps.{AreInTime};
 
-use crate::script::CollectScript;
+use crate::script::{CollectScript, CollectSteps};
 use crate::steps::script;
 use cmc_cursor::{BadField, Fields, check_end, check_floats, fields, optional, path_text};
 use cmc_material::bounded_or;
@@ -25,22 +26,44 @@ pub enum BadCollection {
     NoMemory,
 }
 
+/// A size, `usual` where it is left out, and the members after it.
+#[tactic(auto, unfolding(crate::specs::Collections::size_in))]
+fn size<'a, 'b>(
+    alloc: Global,
+    rest: Fields<'a, 'b>,
+    name: &str,
+    usual: u64,
+) -> Result<(u64, Fields<'a, 'b>), BadField>
+    ensures { Gives (λ p. (p.0, map shown p.1.now)) result (size_in name.now usual (map shown rest.now)) }
+{
+    let (given, rest) = optional(alloc, rest, name)?;
+    let size = bounded_or(alloc, name, given, usual, 1, LARGEST_SIZE)?;
+    Ok((size, rest))
+}
+
+#[tactic(auto, unfolding(crate::specs::Collections::ending_in))]
+fn ending(alloc: Global, now: i64, rest: Fields<'_, '_>) -> Result<(CollectSteps, u64), BadField>
+    ensures ending { Gives (λ p. (p.0, p.1)) result (ending_in now (map shown rest.now)) }
+    ensures in_time { IfOk result (λ p. AreInTime now p.0) }
+{
+    let (given, rest) = optional(alloc, rest, "script")?;
+    let steps = script(alloc, now, given)?;
+    let (window, rest) = size(alloc, rest, "window", 1_000)?;
+    check_end(alloc, rest)?;
+    Ok((steps, window))
+}
+
 #[tactic(auto, unfolding(crate::specs::Collections::collection_in))]
 fn collection(alloc: Global, rest: Fields<'_, '_>) -> Result<CollectScript, BadField>
     ensures script { Gives (λ t. t) result (collection_in (map shown rest.now)) }
     ensures in_time { IfOk result IsInTime }
 {
-    let (given, rest) = optional(alloc, rest, "events")?;
-    let events = bounded_or(alloc, "events", given, 100_000, 1, LARGEST_SIZE)?;
+    let (events, rest) = size(alloc, rest, "events", 100_000)?;
     let (given, rest) = optional(alloc, rest, "faults")?;
     let faults = faults(alloc, given)?;
     let (given, rest) = optional(alloc, rest, "now")?;
     let now = now(alloc, given)?;
-    let (given, rest) = optional(alloc, rest, "script")?;
-    let steps = script(alloc, now, given)?;
-    let (given, rest) = optional(alloc, rest, "window")?;
-    let window = bounded_or(alloc, "window", given, 1_000, 1, LARGEST_SIZE)?;
-    check_end(alloc, rest)?;
+    let (steps, window) = ending(alloc, now, rest)?;
     Ok(CollectScript {
         events,
         faults,
