@@ -53,7 +53,7 @@ pub(crate) fn dated_views(
 }
 
 /// The next moment at which the role, which sees this, may come to have something to do without seeing anything new.
-pub(crate) fn next_due(kernel: &Kernel, role: Role, seen: &Views) -> Option<i64>
+pub(crate) fn next_due(kernel: &Kernel, role: Role, seen: &Shared<Views>) -> Option<i64>
     requires { HasDatedMoments seen.now }
     ensures { IsFirstAfter (on moment kernel.now) (IsDueMoment role seen.now) result }
 {

@@ -75,7 +75,7 @@ fn undue(
     kernel: &Kernel,
     role: Role,
     key: &Key,
-    seen: &Views,
+    seen: &Shared<Views>,
 ) -> Result<Look, AllocError>
     requires sees { seen.now ≡ on views kernel.now role key.now }
     requires dated { HasDatedMoments seen.now }
