@@ -1,4 +1,1 @@
-pub mod Heeding
 pub mod Reading
-pub mod GoodIssues
-pub mod GoodWrites

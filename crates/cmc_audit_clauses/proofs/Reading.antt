@@ -7,7 +7,7 @@ use Rattle.cmc_meta.specs.declared.conditions.Tri.TheVariants as tri
 use Rattle.cmc_meta.specs.ConditionLists.{condition_at}
 use Rattle.cmc_objects.specs.declared.request.CertificateRequest.{CertificateRequest}
 use Rattle.cmc_rules.specs.Safety.{IsIssued}
-use Rattle.cmc_audit_clauses.specs.IssueClauses.{SaysIssued}
+use Rattle.cmc_audit_clauses.specs.Written.{SaysIssued}
 
 -- ---- Ready, Issued
 

@@ -1,3 +1,2 @@
 pub mod Clauses
-pub mod IssueClauses
-pub mod Kept
+pub mod Written

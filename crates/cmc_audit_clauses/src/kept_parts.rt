@@ -89,7 +89,7 @@ fn same_count(left: Option<u32>, right: Option<u32>) -> bool
     left == right
 }
 
-pub(crate) fn same_number(left: Option<u64>, right: Option<u64>) -> bool
+fn same_number(left: Option<u64>, right: Option<u64>) -> bool
     ensures { IsTrue result ↔ (left ≡ right) }
 {
     left == right

@@ -1,12 +1,12 @@
-//! What may fail at an entry of a printed history, and the tests of what an accepted call leaves.
+//! What may fail at an entry of a printed history, what a write of each role may change, and what a Secret that issuing
+//! wrote holds.
 #![tactic(auto)]
 
 mod clause;
-mod issues;
-mod kept;
 mod kept_parts;
 mod rights;
+mod written;
 
 pub use clause::{Clause, Verdict};
-pub use kept::{approves_well, is_write, leaves_revision, may_ask, raises_well};
 pub use rights::may_change;
+pub use written::{has_certificate, is_issued, is_keyed, is_standing_in, is_target, key_of};

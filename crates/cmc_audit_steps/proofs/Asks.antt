@@ -26,7 +26,7 @@ use Rattle.cmc_audit_ledger.specs.Ledgers.{IsLedgerOf, IsRowOf}
 use Rattle.cmc_audit_clauses.specs.declared.clause.Clause.{Clause}
 use Rattle.cmc_audit_clauses.specs.declared.clause.Clause.TheVariants as clauses
 use Rattle.cmc_audit_clauses.specs.Clauses.{Holds, rank}
-use Rattle.cmc_audit_clauses.proofs.GoodWrites.{pass_asks}
+use Rattle.cmc_audit_steps.proofs.GoodWrites.{pass_asks}
 use Rattle.cmc_audit_steps.specs.Failures.{IsOfRequest, MayOrder, asked_version}
 use Rattle.cmc_audit_steps.specs.Meant.{IsNamedEntry, IsNamedOrder}
 use Rattle.cmc_audit_steps.specs.Steps.{AreKept, FailsAt, IsCleanLedger, FindsClause}

@@ -38,9 +38,9 @@ use Rattle.cmc_audit_ledger.specs.Ledgers.{IsLedgerOf, IsRowOf}
 use Rattle.cmc_audit_clauses.specs.declared.clause.Clause.{Clause}
 use Rattle.cmc_audit_clauses.specs.declared.clause.Clause.TheVariants as clauses
 use Rattle.cmc_audit_clauses.specs.Clauses.{Holds, IsApproval, IsIssue, rank}
-use Rattle.cmc_audit_clauses.specs.Kept.{IsKeptApproval, IsKeptWrite, KeepsOrRaises, OnBoth, SameRevision, is_status_update}
-use Rattle.cmc_audit_clauses.proofs.GoodIssues.{DeniesNoMore, KeptRow}
-use Rattle.cmc_audit_clauses.proofs.GoodWrites.{pass_approves, pass_issues, pass_raises, user_leaves}
+use Rattle.cmc_audit_writes.specs.Kept.{IsKeptApproval, IsKeptWrite, KeepsOrRaises, OnBoth, SameRevision, is_status_update}
+use Rattle.cmc_audit_steps.proofs.GoodIssues.{DeniesNoMore, KeptRow}
+use Rattle.cmc_audit_steps.proofs.GoodWrites.{pass_approves, pass_issues, pass_raises, user_leaves}
 use Rattle.cmc_audit_calls.specs.CallsOfLines.{bare_call}
 use Rattle.cmc_audit_calls.proofs.Bare.{call_key_same, replied, replied_back, settled_same, stored_same}
 use Rattle.cmc_audit_calls.proofs.OneReply.{one_reply}

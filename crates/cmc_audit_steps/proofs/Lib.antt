@@ -1,7 +1,3 @@
-pub mod Going
-pub mod Places
-pub mod Naming
-pub mod Asks
-pub mod SameCall
-pub mod Calls
-pub mod CallLines
+pub mod Heeding
+pub mod GoodIssues
+pub mod GoodWrites

@@ -25,7 +25,7 @@ use Rattle.cmc_lines.specs.declared.line.PrintedOrder.{PrintedOrder}
 use Rattle.cmc_lines.specs.declared.line.PrintedOrder.TheVariants as asked
 use Rattle.cmc_lines.specs.Shown.{shown_order}
 use Rattle.cmc_lines.proofs.EntryLike.{order_like, request_like, request_named}
-use Rattle.cmc_audit_clauses.proofs.GoodIssues.{lawful, one_version}
+use Rattle.cmc_audit_steps.proofs.GoodIssues.{lawful, one_version}
 use Rattle.cmc_audit_steps.specs.Failures.{IsOfRequest}
 use Rattle.cmc_audit_steps.specs.Meant.{IsNamedOrder, IsVersionNamed}
 

@@ -18,8 +18,8 @@ use Rattle.cmc_audit_state.specs.declared.row.Version.{Version}
 use Rattle.cmc_audit_state.specs.OpenRows.{Opened, open_row_at}
 use Rattle.cmc_audit_clauses.specs.declared.clause.Clause.{Clause}
 use Rattle.cmc_audit_clauses.specs.declared.clause.Clause.TheVariants as clauses
-use Rattle.cmc_audit_clauses.specs.IssueClauses.{Exists}
-use Rattle.cmc_audit_clauses.specs.Kept.{IsKeptApproval, IsKeptAsk, IsKeptWrite, KeepsOrRaises, OnBoth, SameRevision}
+use Rattle.cmc_audit_clauses.specs.Written.{Exists}
+use Rattle.cmc_audit_writes.specs.Kept.{IsKeptApproval, IsKeptAsk, IsKeptWrite, KeepsOrRaises, OnBoth, SameRevision}
 
 -- ---- an accepted call
 

@@ -3,14 +3,15 @@ ghost use Rattle.std.specs.Prelude.{◌≡◌, ◌↔◌, ◌-◌, ◌<◌, ◌^
 ghost use Rattle.cmc_meta.specs.declared.key.Kind.TheVariants as kinds;
 ghost use Rattle.cmc_lines.specs.declared.line.PrintedLine.TheVariants as lines;
 ghost use Rattle.cmc_audit_state.specs.OpenRows.{open_row_at};
-ghost use Rattle.cmc_audit_clauses.specs.IssueClauses.{Exists};
-ghost use Rattle.cmc_audit_clauses.specs.Kept.{IsKeptAsk};
+ghost use Rattle.cmc_audit_clauses.specs.Written.{Exists};
+ghost use Rattle.cmc_audit_writes.specs.Kept.{IsKeptAsk};
 ghost use Rattle.cmc_audit_steps.specs.Failures.{IsOfRequest, MayOrder, asked_version};
 ghost use Rattle.cmc_audit_steps.specs.Steps.{Steps};
 
-use cmc_audit_clauses::{Clause, may_ask};
+use cmc_audit_clauses::Clause;
 use cmc_audit_ledger::Ledger;
 use cmc_audit_state::{Journal, Passes, Version};
+use cmc_audit_writes::may_ask;
 use cmc_lines::PrintedOrder;
 use cmc_meta::{Key, Kind};
 use std::alloc::AllocError;

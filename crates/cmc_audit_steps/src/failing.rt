@@ -6,10 +6,9 @@ ghost use Rattle.cmc_audit_state.specs.declared.row.Row.{Row as RowValue};
 ghost use Rattle.cmc_audit_state.specs.OpenRows.{open_row_at};
 ghost use Rattle.cmc_audit_steps.specs.Failures.{CallFails, RowFails, UserFails, WriteFails};
 
-use cmc_audit_clauses::{
-    Clause, approves_well, is_write, leaves_revision, may_change, raises_well,
-};
+use cmc_audit_clauses::{Clause, may_change};
 use cmc_audit_state::{Journal, Passes, Row};
+use cmc_audit_writes::{approves_well, is_write, leaves_revision, raises_well};
 use cmc_meta::{Key, Kind};
 use cmc_objects::{Call, Object, Who};
 use std::alloc::{AllocError, Global};

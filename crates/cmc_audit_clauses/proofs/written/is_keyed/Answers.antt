@@ -1,4 +1,4 @@
-use Rattle.cmc_audit_clauses.proofs.issues.is_keyed.Goals as goal
+use Rattle.cmc_audit_clauses.proofs.written.is_keyed.Goals as goal
 
 pub returns-then-not-has_key : goal.returns-then-not-has_key
 returns-then-not-has_key c = (λ on. absurd (cc on), λ is. absurd (let on = c.has_key.ensures.1 is.has_key in let off = c.if-not-has_key.true in cc (on, off)))

@@ -20,7 +20,8 @@ use Rattle.cmc_rules.specs.Views.{request_at}
 use Rattle.cmc_audit_state.specs.declared.row.Row.{Row}
 use Rattle.cmc_audit_state.specs.Heard.{has_yes_on}
 use Rattle.cmc_audit_state.specs.Journaled.{cached, is_denied_uid}
-use Rattle.cmc_audit_clauses.specs.IssueClauses.{Exists, IsKeptIssue}
+use Rattle.cmc_audit_clauses.specs.Written.{Exists}
+use Rattle.cmc_audit_writes.specs.IssueClauses.{IsKeptIssue}
 
 -- where an object stood and one exists, P holds of them
 abbrev pub OnBoth : (Object → Object → Type 0) → Option Object → Option Object → Type 0

@@ -3,7 +3,7 @@ use Rattle.cmc_meta.specs.declared.conditions.ConditionKind.TheVariants as condi
 use Rattle.cmc_meta.specs.ConditionLists.{condition_at}
 use Rattle.cmc_objects.specs.declared.request.RequestStatus.{RequestStatus}
 use Rattle.cmc_audit_clauses.proofs.Reading.{issued_some, issued_none}
-use Rattle.cmc_audit_clauses.proofs.issues.is_issued.Goals as goal
+use Rattle.cmc_audit_clauses.proofs.written.is_issued.Goals as goal
 
 pub returns-in-Some : goal.returns-in-Some
 returns-in-Some c =

@@ -2,8 +2,8 @@ use Rattle.std.proofs.Common.{ℤ, rules, subst, w64}
 use Rattle.std.proofs.lemmas.Int.{to_z-of_z}
 use Rattle.std.proofs.lemmas.Result.{IfOk-weaker}
 use Rattle.std.specs.Prelude.{◌↔◌, IsTrue}
-use Rattle.cmc_audit_clauses.specs.IssueClauses.{IsSignedWrite}
-use Rattle.cmc_audit_clauses.proofs.issues.is_issue_with.Goals as goal
+use Rattle.cmc_audit_writes.specs.IssueClauses.{IsSignedWrite}
+use Rattle.cmc_audit_writes.proofs.issues.is_issue_with.Goals as goal
 
 pub returns : goal.returns
 returns c =

@@ -53,8 +53,9 @@ use Rattle.cmc_audit_state.specs.declared.row.Version.{Version}
 use Rattle.cmc_audit_state.specs.Heard.{approved, last_judged, has_found, finds, is_by, saved}
 use Rattle.cmc_audit_state.specs.Journaled.{cached, is_denied_uid}
 use Rattle.cmc_audit_ledger.specs.Ledgers.{IsRow, reached}
-use Rattle.cmc_audit_clauses.specs.IssueClauses.{Exists, IsIssueBy, IsIssueFor, IsIssueOf, IsIssueWith, IsIssuers, IsKeptIssue, IsSignedWrite, IsTemporaryWrite, next_key_at, next_named, request_in_progress}
-use Rattle.cmc_audit_clauses.proofs.Heeding.{never_denied, none_denied, same_number}
+use Rattle.cmc_audit_clauses.specs.Written.{Exists, IsTemporaryWrite}
+use Rattle.cmc_audit_writes.specs.IssueClauses.{IsIssueBy, IsIssueFor, IsIssueOf, IsIssueWith, IsIssuers, IsKeptIssue, IsSignedWrite, next_key_at, next_named, request_in_progress}
+use Rattle.cmc_audit_steps.proofs.Heeding.{never_denied, none_denied, same_number}
 
 -- ---- where there is one
 

@@ -38,10 +38,11 @@ use Rattle.cmc_audit_state.specs.Heard.{approved, has_yes_on}
 use Rattle.cmc_audit_state.specs.Journaled.{cached, is_denied_uid}
 use Rattle.cmc_audit_ledger.specs.Ledgers.{IsRow, reached}
 use Rattle.cmc_audit_clauses.specs.Clauses.{IsApproval, IsIssue, IsJudgedOn}
-use Rattle.cmc_audit_clauses.specs.IssueClauses.{Exists, IsKeptIssue}
-use Rattle.cmc_audit_clauses.specs.Kept.{IsAskFor, IsKeptApproval, IsKeptAsk, IsKeptRaise, IsKeptWrite, KeepsOrRaises, OnBoth, SameRevision, approves, is_approver, is_issuing_role, is_secret, is_status_update, secret_if_any}
-use Rattle.cmc_audit_clauses.proofs.Heeding.{approved_judged, judged_approved, never_denied, none_denied, saved_stands, stands_saved}
-use Rattle.cmc_audit_clauses.proofs.GoodIssues.{DeniesNoMore, KeptRow, cached_version, good_kept, here, kept_good, lawful, there}
+use Rattle.cmc_audit_clauses.specs.Written.{Exists}
+use Rattle.cmc_audit_writes.specs.IssueClauses.{IsKeptIssue}
+use Rattle.cmc_audit_writes.specs.Kept.{IsAskFor, IsKeptApproval, IsKeptAsk, IsKeptRaise, IsKeptWrite, KeepsOrRaises, OnBoth, SameRevision, approves, is_approver, is_issuing_role, is_secret, is_status_update, secret_if_any}
+use Rattle.cmc_audit_steps.proofs.Heeding.{approved_judged, judged_approved, never_denied, none_denied, saved_stands, stands_saved}
+use Rattle.cmc_audit_steps.proofs.GoodIssues.{DeniesNoMore, KeptRow, cached_version, good_kept, here, kept_good, lawful, there}
 
 -- ---- tests
 

@@ -8,12 +8,11 @@ ghost use Rattle.cmc_rules.specs.Revisions.{RaisesRevision, stated_revision};
 ghost use Rattle.cmc_rules.specs.Views.{request_at};
 ghost use Rattle.cmc_audit_state.specs.Heard as heard;
 ghost use Rattle.cmc_audit_state.specs.Journaled.{cached};
-ghost use Rattle.cmc_audit_clauses.specs.IssueClauses.{Exists};
-ghost use Rattle.cmc_audit_clauses.specs.Kept as words;
-ghost use Rattle.cmc_audit_clauses.specs.Kept.{IsAskFor, IsKeptApproval, IsKeptAsk, IsKeptRaise, IsKeptWrite, KeepsOrRaises, OnBoth, SameRevision};
+ghost use Rattle.cmc_audit_clauses.specs.Written.{Exists};
+ghost use Rattle.cmc_audit_writes.specs.Kept as words;
+ghost use Rattle.cmc_audit_writes.specs.Kept.{IsAskFor, IsKeptApproval, IsKeptAsk, IsKeptRaise, IsKeptWrite, KeepsOrRaises, OnBoth, SameRevision};
 
 use crate::issues::is_issue;
-use crate::kept_parts::same_number;
 use cmc_audit_ledger::request_seen;
 use cmc_audit_state::{Journal, Row, is_approved};
 use cmc_meta::{Key, Kind};
@@ -73,7 +72,7 @@ fn stated(object: &Object) -> Option<u64>
 fn same_revision(old: &Object, new: &Object) -> bool
     ensures { IsTrue result ↔ SameRevision old.now new.now }
 {
-    same_number(stated(new), stated(old))
+    stated(new) == stated(old)
 }
 
 /// Whether a user leaves the revision.

@@ -1,0 +1,2 @@
+pub mod IssueClauses
+pub mod Kept
