@@ -16,6 +16,7 @@ use cmc_meta::{Bytes, Condition, ConditionKind, Tri};
 use cmc_objects::{Certificate, CertificateRequest, KeySpec, Secret, part_under};
 use std::alloc::{AllocError, Global};
 
+/// The private key file of the Secret, in DER; `None` exactly where it has none.
 pub fn key_of<'a>(secret: &'a Secret) -> Option<&'a Bytes>
     ensures { option_copied result ≡ key_in secret.now }
 {
@@ -28,6 +29,7 @@ fn certificate_of<'a>(secret: &'a Secret) -> Option<&'a Bytes>
     part_under(&secret.parts, "tls.crt")
 }
 
+/// Whether the Secret has this certificate.
 pub fn has_certificate(secret: &Secret, certificate: &Bytes) -> bool
     ensures { IsTrue result ↔ (certificate_file_in secret.now ≡ Some certificate.now) }
 {
@@ -127,6 +129,8 @@ fn has_requested_key(spec: &KeySpec, written: &Secret, request: &CertificateRequ
     }
 }
 
+/// Whether the Secret has this private key file and a certificate of the same public key; the key is as the Certificate asks
+/// for it, and the request is for it.
 pub fn is_keyed(
     certificate: &Certificate,
     request: &CertificateRequest,
@@ -144,6 +148,7 @@ pub fn is_keyed(
     has_requested_key(&certificate.spec.key, written, request)
 }
 
+/// Whether the Secret is the one that the Certificate names, and none with a next private key.
 pub fn is_target(certificate: &Certificate, written: &Secret) -> bool
     ensures { IsTrue result ↔ HasTargetName certificate.now written.now }
 {
