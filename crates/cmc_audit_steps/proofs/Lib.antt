@@ -1,3 +1,10 @@
 pub mod Heeding
 pub mod GoodIssues
 pub mod GoodWrites
+pub mod Going
+pub mod Places
+pub mod Naming
+pub mod Asks
+pub mod SameCall
+pub mod Calls
+pub mod CallLines
