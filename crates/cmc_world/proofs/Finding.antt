@@ -1,8 +1,11 @@
 -- What the searches of the work queues find.
-use Rattle.std.proofs.Common.{◌≡◌, ◌⊎◌, inl, inr, List, Option, Some, None, Bool, true, false, refl, ap}
+use Rattle.std.proofs.Common.{◌≡◌, ◌⊎◌, inl, inr, List, Option, Some, None, Bool, true, false, refl, ap, subst, Ordering, Less, Equal, Greater}
 use Rattle.std.proofs.lemmas.Bool.{and_from, and_parts}
-use Rattle.std.specs.Prelude.{◌&&◌, not}
+use Rattle.std.specs.Prelude.{◌&&◌, is_some, not, option_map}
+use Rattle.std.specs.Ordering.{is_lt, ordering_reverse}
 use Rattle.cmc_meta.specs.declared.key.Key.{Key}
+use Rattle.cmc_meta.specs.Keys.{key_cmp}
+use Rattle.cmc_meta.proofs.KeyOrder.{key_cmp-total, key_cmp-IsAntisymmetric}
 use Rattle.cmc_objects.specs.declared.role.Role.{Role}
 use Rattle.cmc_objects.specs.declared.entry.Entry.{Entry}
 use Rattle.cmc_objects.specs.Informers.{kind_of_work}
@@ -20,9 +23,10 @@ use Rattle.cmc_waking.specs.Queues.{row_at}
 use Rattle.cmc_waking.specs.WakeUps.{IsSearched}
 use Rattle.cmc_waking.proofs.Promise.{searched}
 use Rattle.cmc_world.specs.Fed.{IsFed}
+use Rattle.cmc_world.specs.declared.pending.Candidate.{Candidate}
 use Rattle.cmc_kernel.specs.Plain.{Fits, MayBegin}
 use Rattle.cmc_world.specs.Searches as searches
-use Rattle.cmc_world.specs.Searches.{FindsKey, HasWork, HasWorkAbove}
+use Rattle.cmc_world.specs.Searches.{FindsKey, HasWork, HasWorkAbove, IsReached}
 use Rattle.cmc_world.proofs.Looking.{not_working, ready_work, row_works}
 use Rattle.cmc_world.proofs.Moves.{fed_of}
 use Rattle.cmc_world.proofs.Unknown.{known_unless_quiet}
@@ -123,16 +127,70 @@ free_fits s h role key queues legal fed up on known =
     let free = free_is (row_at queues role key) on in
     fit_by s h role key queues legal fed up (ready_work s h role key queues fed free.0) free.0 free.1 (either_found (row_at queues role key).work known)
 
+-- ---- a search above a key goes on above the last key that it has looked at
+
+-- there is none above where the search has come to
+pub none_from : (from reached : Option Key) (test : Key → Bool) (found : Option Candidate) → reached ≡ from → found ≡ None → FindsFirst (λ k. is_above reached k && test k) (option_map (λ c. c.key) found) → FindsFirst (λ k. is_above from k && test k) None
+none_from from reached test found same is none =
+    subst (λ (f : Option Key). FindsFirst (λ k. is_above f k && test k) None) same (subst (λ (o : Option Candidate). FindsFirst (λ k. is_above reached k && test k) (option_map (λ c. c.key) o)) is none)
+
+-- the first key above where the search has come to
+pub first_from : (from reached : Option Key) (test : Key → Bool) (found : Option Candidate) (candidate : Candidate) → reached ≡ from → found ≡ Some candidate → FindsFirst (λ k. is_above reached k && test k) (option_map (λ c. c.key) found)
+    → FindsFirst (λ k. is_above from k && test k) (Some candidate.key)
+first_from from reached test found candidate same is first =
+    subst (λ (f : Option Key). FindsFirst (λ k. is_above f k && test k) (Some candidate.key)) same (subst (λ (o : Option Candidate). FindsFirst (λ k. is_above reached k && test k) (option_map (λ c. c.key) o)) is first)
+
+pub nothing_passed : (s : Setting) (h : List Entry) (role : Role) (below : Option Key) → IsReached s h role below below
+nothing_passed s h role below = record { passed = λ key w. w.above; beyond = λ key above. above }
+
+is_less : (a : Ordering) → is_lt a ≡ true → a ≡ Less
+is_less Less on = refl
+is_less Equal on = absurd (cc on)
+is_less Greater on = absurd (cc on)
+
+higher : (below : Option Key) (key k : Key) → is_above below key ≡ true → is_lt (key_cmp key k) ≡ true → is_above below k ≡ true
+higher None key k above more = refl
+higher (Some b) key k above more = ap is_lt (key_cmp-total.trans b key k (is_less (key_cmp b key) above) (is_less (key_cmp key k) more))
+
+more_by : (a b : Ordering) → a ≡ ordering_reverse b → (b ≡ Less → ⊥) → (b ≡ Equal → ⊥) → is_lt a ≡ true
+more_by a Less is low tie = absurd (low refl)
+more_by a Equal is low tie = absurd (tie refl)
+more_by a Greater is low tie = ap is_lt is
+
+pub passed_by : (s : Setting) (h : List Entry) (role : Role) (below from : Option Key) (queues : List Work) (key : Key) → IsFed s h queues → IsReached s h role below from → FindsFirst (λ k. is_above from k && is_pending (row_at queues role k)) (Some key)
+    → (HasWork s h role key → ⊥) → IsReached s h role below (Some key)
+passed_by s h role below from queues key fed reached first idle = record {
+  passed = λ k w. more_by (key_cmp key k) (key_cmp k key) (key_cmp-total.antisymm key k) (λ low. not_lower k low w) (λ tie. idle (subst (λ (k : Key). HasWork s h role k) (key_cmp-IsAntisymmetric k key tie) w.work));
+  beyond = λ k more. reached.beyond k (higher from key k (and_parts (is_above from key) (is_pending (row_at queues role key)) first.0).0 more);
+} where
+  not_lower : (k : Key) → key_cmp k key ≡ Less → HasWorkAbove s h role below k → ⊥
+  not_lower k low w = let on = and_from (is_above from k) (is_pending (row_at queues role k)) (reached.passed k w) (work_pending s h role k queues fed w.work) in let off = first.1 k low in cc (on, off)
+
 -- ---- the first key of which it is so
 
-pub work_none : (s : Setting) (h : List Entry) (role : Role) (below : Option Key) (queues : List Work) → IsFed s h queues → FindsFirst (λ k. is_above below k && is_pending (row_at queues role k)) None → searches.FindsFirstKey (HasWorkAbove s h role below) None
-work_none s h role below queues fed none k w = let on = and_from (is_above below k) (is_pending (row_at queues role k)) w.above (work_pending s h role k queues fed w.work) in let off = none k in cc (on, off)
+pub none_by : {T : Type 0} → (f : T → Key) (found : Option T) → is_some found ≡ false → option_map f found ≡ None
+none_by f None none = refl
+none_by f (Some x) none = absurd (cc none)
 
-pub work_first : (s : Setting) (h : List Entry) (role : Role) (below : Option Key) (queues : List Work) (key : Key) → IsFed s h queues → FindsFirst (λ k. is_above below k && is_pending (row_at queues role k)) (Some key) → HasWork s h role key
+-- that none is found in the queue means that there is no work
+pub nothing_pending : (s : Setting) (h : List Entry) (role : Role) (queues : List Work) → IsFed s h queues → FindsFirst (λ k. is_pending (row_at queues role k)) None → (key : Key) → HasWork s h role key → ⊥
+nothing_pending s h role queues fed none key work = let on = work_pending s h role key queues fed work in let off = none key in cc (on, off)
+
+pub work_none : (s : Setting) (h : List Entry) (role : Role) (below from : Option Key) (queues : List Work) → IsFed s h queues → IsReached s h role below from → FindsFirst (λ k. is_above from k && is_pending (row_at queues role k)) None
+    → searches.FindsFirstKey (HasWorkAbove s h role below) None
+work_none s h role below from queues fed reached none k w =
+    let on = and_from (is_above from k) (is_pending (row_at queues role k)) (reached.passed k w) (work_pending s h role k queues fed w.work) in
+    let off = none k in
+    cc (on, off)
+
+pub work_first : (s : Setting) (h : List Entry) (role : Role) (below from : Option Key) (queues : List Work) (key : Key) → IsFed s h queues → IsReached s h role below from → FindsFirst (λ k. is_above from k && is_pending (row_at queues role k)) (Some key) → HasWork s h role key
     → searches.FindsFirstKey (HasWorkAbove s h role below) (Some key)
-work_first s h role below queues key fed first work = (
-  record { above = (and_parts (is_above below key) (is_pending (row_at queues role key)) first.0).0; work = work },
-  λ k low w. let on = and_from (is_above below k) (is_pending (row_at queues role k)) w.above (work_pending s h role k queues fed w.work) in let off = first.1 k low in cc (on, off),
+work_first s h role below from queues key fed reached first work = (
+  record { above = reached.beyond key (and_parts (is_above from key) (is_pending (row_at queues role key)) first.0).0; work = work },
+  λ k low w.
+      let on = and_from (is_above from k) (is_pending (row_at queues role k)) (reached.passed k w) (work_pending s h role k queues fed w.work) in
+      let off = first.1 k low in
+      cc (on, off),
 )
 
 pub fits_none : (s : Setting) (h : List Entry) (role : Role) (queues : List Work) → IsFed s h queues → FindsFirst (λ k. is_free (row_at queues role k)) None → FindsKey s h role None

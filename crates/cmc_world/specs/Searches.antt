@@ -101,6 +101,16 @@ pub record HasWorkAbove (s : Setting) (h : List Entry) (role : Role) (below : Op
   pub above : is_above below key ≡ true
   pub work : HasWork s h role key
 
+-- above what a search above the one key looks on, once it has looked at the other
+abbrev pub above_looked : Option Key → Option Key → Option Key
+above_looked below None = below
+above_looked below (Some key) = Some key
+
+-- a search above the one key has come to the other: there is no work in between
+pub record IsReached (s : Setting) (h : List Entry) (role : Role) (below from : Option Key) : Type 0 where
+  pub passed : (key : Key) → HasWorkAbove s h role below key → is_above from key ≡ true
+  pub beyond : (key : Key) → is_above from key ≡ true → is_above below key ≡ true
+
 -- an act that is none need not be kept
 abbrev pub prospect : Option Act → Prospect
 prospect None = Something

@@ -1,14 +1,14 @@
 //! The next key on which a role has something to do.
 ghost use Rattle.std.specs.Option.{option_copied};
-ghost use Rattle.std.specs.Prelude.{◌≡◌, ◌&&◌, IfOk, true};
+ghost use Rattle.std.specs.Prelude.{◌≡◌, ◌&&◌, IfOk, IfSome, option_map, true};
 ghost use Rattle.cmc_model.specs.Histories.{runs};
 ghost use Rattle.cmc_queue.specs.Queues.{is_above, FindsFirst};
-ghost use Rattle.cmc_queue.specs.Rows.{is_pending};
+ghost use Rattle.cmc_queue.specs.Rows.{is_pending, is_unknown};
 ghost use Rattle.cmc_waking.specs.Queues.{row_at};
 ghost use Rattle.cmc_kernel.specs.Kept.{on};
 ghost use Rattle.cmc_world.specs.Fed.{IsFed};
 ghost use Rattle.cmc_world.specs.KeptLooks.{IsKeptRight};
-ghost use Rattle.cmc_world.specs.Searches.{FindsPending};
+ghost use Rattle.cmc_world.specs.Searches.{above_looked, FindsPending};
 
 use crate::kept::Kept;
 use crate::looks::look_at;
@@ -30,13 +30,45 @@ pub(crate) enum Pending {
     Pass(Opening),
 }
 
+/// A key, and whether it is to be looked at.
+#[derive(Drop)]
+struct Candidate {
+    key: Key,
+    unknown: bool,
+}
+
 /// The first key above this one, if there is one, that can be given and on which there may be something to do.
-fn pending_key(queues: &Queues, role: Role, below: Option<&Key>) -> Result<Option<Key>, AllocError>
-    ensures { IfOk result (FindsFirst (λ k. is_above (option_copied below.entry) k && is_pending (row_at queues.now role k))) }
+fn next_candidate(
+    queues: &Queues,
+    role: Role,
+    below: Option<&Key>,
+) -> Result<Option<Candidate>, AllocError>
+    ensures finds { IfOk result (λ c. FindsFirst (λ k. is_above (option_copied below.entry) k && is_pending (row_at queues.now role k)) (option_map (λ c. c.key) c)) }
+    ensures unknown { IfOk result (λ c. IfSome c (λ c. c.unknown ≡ is_unknown (row_at queues.now role c.key).work)) }
 {
-    match queues.queue(role).next_pending(below) {
-        Some(key) => Ok(Some(key.copy()?)),
+    match queues.queue(role).next_pending_row(below) {
+        Some((key, row)) => Ok(Some(Candidate {
+            key: key.copy()?,
+            unknown: row.work.is_unknown(),
+        })),
         None => Ok(None),
+    }
+}
+
+/// The first key that can be given and on which there may be something to do.
+pub(crate) fn first_pending(queues: &Queues, role: Role) -> Option<&Key>
+    ensures { FindsFirst (λ k. is_pending (row_at queues.now role k)) (option_copied result) }
+{
+    queues.queue(role).next_pending(None)
+}
+
+/// Where a search above the one key goes on that has looked at the other.
+fn reached<'a>(below: Option<&'a Key>, looked: &'a Option<Key>) -> Option<&'a Key>
+    ensures { option_copied result ≡ above_looked (option_copied below.entry) looked.now }
+{
+    match looked {
+        Some(key) => Some(key),
+        None => below,
     }
 }
 
@@ -58,12 +90,17 @@ pub(crate) fn next_pending(
     ensures finds { IfOk result (λ p. on FindsPending kernel.now role (option_copied below.entry) p) }
 {
     kernel.is_run();
-    while let Some(key) = pending_key(queues, role, below)? {
-        if !queues.queue(role).row(&key).work.is_unknown() {
-            return Ok(Pending::Key(key));
+    let mut looked = None;
+    while let Some(candidate) = next_candidate(queues, role, reached(below, &looked))? {
+        if !candidate.unknown {
+            return Ok(Pending::Key(candidate.key));
         }
-        if let Some(opening) = look_at(alloc, kernel, queues, kept, role, &key)? {
+        if let Some(opening) = look_at(alloc, kernel, queues, kept, role, &candidate.key)? {
             return Ok(Pending::Pass(opening));
+        }
+        // (the first of all pending keys is known, and the first above a key is searched for)
+        if below.is_some() {
+            looked = Some(candidate.key);
         }
     }
     Ok(Pending::None)

@@ -12,7 +12,7 @@ ghost use Rattle.cmc_world.specs.Searches.{RestsWhereRunning};
 use crate::deliveries::next_delivery;
 use crate::kept::Kept;
 use crate::passes::first_pass;
-use crate::pending::{Pending, next_pending};
+use crate::pending::{Pending, first_pending, next_pending};
 use crate::roles::role_in;
 use crate::scripts::{Awaits, awaited};
 use cmc_kernel::Kernel;
@@ -40,6 +40,9 @@ fn rests_in(
         return Ok(true);
     }
     kernel.is_run();
+    if first_pending(queues, role).is_none() {
+        return Ok(true);
+    }
     match next_pending(alloc, kernel, queues, kept, role, None)? {
         Pending::None => Ok(true),
         Pending::Key(_key) => Ok(false),

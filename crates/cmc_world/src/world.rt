@@ -337,8 +337,12 @@ impl World {
         Ok(answer)
     }
 
-    /// Has the pass go on.
-    fn step_next(
+    /// Has the pass go on, where that is possible: the step of the move `Next`.
+    ///
+    /// # Errors
+    ///
+    /// Memory runs out. Nothing has changed then.
+    pub fn step_next(
         &mut self,
         alloc: Global,
         pass: u64,

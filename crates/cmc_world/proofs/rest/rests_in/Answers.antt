@@ -1,11 +1,26 @@
-use Rattle.std.proofs.Common.{◌∙◌, refl, sym, subst, None}
+use Rattle.std.proofs.Common.{◌∙◌, refl, sym, ap, subst, Option, None}
+use Rattle.std.specs.Prelude.{not}
+use Rattle.cmc_meta.specs.declared.key.Key.{Key}
+use Rattle.cmc_queue.specs.Queues.{FindsFirst}
+use Rattle.cmc_queue.specs.Rows.{is_pending}
+use Rattle.cmc_waking.specs.Queues.{row_at}
 use Rattle.cmc_kernel.specs.Kept.{setting_of}
 use Rattle.cmc_world.specs.declared.pending.Pending.{Pending}
 use Rattle.cmc_world.specs.Searches.{FindsPending}
+use Rattle.cmc_world.proofs.Finding.{none_by, nothing_pending}
 use Rattle.cmc_world.proofs.KeptActs.{work_was_found}
 use Rattle.cmc_world.proofs.KeptOver.{kept_noted}
 use Rattle.cmc_world.proofs.Resting.{rests_by_none, rests_not}
 use Rattle.cmc_world.proofs.rest.rests_in.Goals as goal
+
+pub returns-then-is_none-clause-test : goal.returns-then-is_none-clause-test
+returns-then-is_none-clause-test c =
+    let s = setting_of c.args.kernel.now.scenario in
+    let h = c.args.kernel.now.history in
+    let none = subst (λ (k : Option Key). FindsFirst (λ k. is_pending (row_at c.args.queues.now c.args.role k)) k) (none_by _ c.first_pending.result (c.is_none.ensures ∙ ap not c.if-is_none.true)) c.first_pending.ensures in (
+      λ on up. rests_by_none s h c.args.role c.is_run.ensures.run c.requires.closed c.requires.told up (nothing_pending s h c.args.role c.args.queues.now c.requires.fed none),
+      λ rests. refl,
+    )
 
 pub returns-in-None-clause-test : goal.returns-in-None-clause-test
 returns-in-None-clause-test c =
