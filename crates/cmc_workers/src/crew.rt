@@ -16,23 +16,23 @@ pub(crate) struct Crew {
     away: u32,
     /// How many of these wait for the value of a question.
     asking: u32,
-    /// How many workers sleep.
+    /// How many workers sleep, or come now.
     asleep: u32,
-    /// How many of these are called, and have not come yet.
+    /// How many of these are called or come now, and are not there yet.
     called: u32,
 }
 
 impl Crew {
-    /// So many workers, who are all at home.
+    /// So many workers, who all come now.
     pub(crate) fn new(workers: u32) -> Crew
-        ensures { result ≡ record { workers = workers; away = 0; asking = 0; asleep = 0; called = 0 } }
+        ensures { result ≡ record { workers = workers; away = 0; asking = 0; asleep = workers; called = workers } }
     {
         Crew {
             workers,
             away: 0,
             asking: 0,
-            asleep: 0,
-            called: 0,
+            asleep: workers,
+            called: workers,
         }
     }
 
@@ -87,7 +87,15 @@ impl Crew {
         self.asleep = self.asleep.saturating_add(1);
     }
 
-    /// Notes that a worker woke.
+    /// Notes that a worker comes at once: as one that sleeps and is called.
+    pub(crate) fn stand_by(&mut self)
+        ensures { self.new ≡ record self.old { asleep = more self.old.asleep; called = more self.old.called } }
+    {
+        self.asleep = self.asleep.saturating_add(1);
+        self.called = self.called.saturating_add(1);
+    }
+
+    /// Notes that a worker, which sleeps and may be called, has come.
     pub(crate) fn wake(&mut self)
         ensures { self.new ≡ record self.old { asleep = less self.old.asleep; called = less self.old.called } }
     {

@@ -36,7 +36,7 @@ pub(crate) struct Shared {
     /// Which role is to be told next of what it was not told.
     wanted: Role,
     /// Where the workers are.
-    pub crew: Crew,
+    crew: Crew,
     /// Whether all is over for the threads.
     pub over: bool,
 }
@@ -50,6 +50,30 @@ enum Went {
     Asks,
     /// It was not made.
     Not,
+}
+
+/// An errand with which a worker goes away, and whether another worker has to be called.
+pub(crate) struct Departure {
+    pub errand: Errand,
+    pub calls: bool,
+}
+
+impl Drop for Departure {
+    fn drop(self) {
+        let Departure {
+            errand: _errand,
+            calls: _calls,
+        } = self;
+    }
+}
+
+impl Departure {
+    pub(crate) fn into_parts(self) -> (Errand, bool)
+        ensures { result ≡ (self.errand, self.calls) }
+    {
+        let Departure { errand, calls } = self;
+        (errand, calls)
+    }
 }
 
 /// A pass that has just begun, and what came of its first move, if that was made with the begin.
@@ -147,11 +171,8 @@ impl Shared {
         ensures scenario { self.new.world.scenario ≡ self.old.world.scenario }
     {
         for _move in 0..=self.limit() {
-            let step = Move::Next {
-                pass: taken.pass,
-                incarnation: taken.incarnation,
-            };
-            match self.make(alloc, step)? {
+            let answer = self.world.step_next(alloc, taken.pass, taken.incarnation)?;
+            match self.went(answer) {
                 Went::On => {}
                 Went::Asks => return self.ask(taken),
                 Went::Not => return Ok(None),
@@ -332,7 +353,7 @@ impl Shared {
 
     /// Begins passes, one after another, and has each go on, up to the first that asks or has to decide. `None` where no
     /// pass can begin before something is delivered, or all is over.
-    pub(crate) fn take(&mut self, alloc: Global) -> Result<Option<Errand>, AllocError>
+    fn begin_passes(&mut self, alloc: Global) -> Result<Option<Errand>, AllocError>
         ensures errand { IfOk result (λ e. IfSome e (λ errand. IsErrand self.new.world errand)) }
         ensures scenario { self.new.world.scenario ≡ self.old.world.scenario }
     {
@@ -352,7 +373,7 @@ impl Shared {
 
     /// Goes on with the pass for which a thread comes back, and then with others, up to the first that asks or has to
     /// decide. `None` where no pass can go on, or begin before something is delivered.
-    pub(crate) fn come_back(
+    fn go_on_with_passes(
         &mut self,
         alloc: Global,
         outcome: Outcome,
@@ -363,11 +384,55 @@ impl Shared {
         if let Some(errand) = self.go_back(alloc, outcome)? {
             return Ok(Some(errand));
         }
-        self.take(alloc)
+        self.begin_passes(alloc)
+    }
+
+    /// Notes that the worker goes away with the errand.
+    fn leave(&mut self, errand: Errand) -> Departure
+        ensures errand { result.errand ≡ errand }
+        ensures same { self.new.world ≡ self.old.world }
+    {
+        let calls = self.crew.leave();
+        Departure { errand, calls }
+    }
+
+    /// Has a worker, which was called or comes anew, take the next errand. `None` where there is none without waiting for it:
+    /// the worker counts as asleep then.
+    pub(crate) fn take(&mut self, alloc: Global) -> Result<Option<Departure>, AllocError>
+        ensures errand { IfOk result (λ d. IfSome d (λ d. IsErrand self.new.world d.errand)) }
+        ensures scenario { self.new.world.scenario ≡ self.old.world.scenario }
+    {
+        self.crew.wake();
+        match self.begin_passes(alloc)? {
+            Some(errand) => Ok(Some(self.leave(errand))),
+            None => {
+                self.crew.fall_asleep();
+                Ok(None)
+            }
+        }
+    }
+
+    /// Has a worker, which comes back from an errand, take the next one. `None` where there is none without waiting for it: the
+    /// worker counts as called then.
+    pub(crate) fn come_back(
+        &mut self,
+        alloc: Global,
+        outcome: Outcome,
+    ) -> Result<Option<Departure>, AllocError>
+        ensures errand { IfOk result (λ d. IfSome d (λ d. IsErrand self.new.world d.errand)) }
+        ensures scenario { self.new.world.scenario ≡ self.old.world.scenario }
+    {
+        match self.go_on_with_passes(alloc, outcome)? {
+            Some(errand) => Ok(Some(self.leave(errand))),
+            None => {
+                self.crew.stand_by();
+                Ok(None)
+            }
+        }
     }
 
     /// Tells the role that is wanted of all that it was not told of and that is not held from it.
-    pub(crate) fn deliver(&mut self, alloc: Global) -> Result<(), AllocError>
+    fn tell_wanted(&mut self, alloc: Global) -> Result<(), AllocError>
         ensures { self.new.world.scenario ≡ self.old.world.scenario }
     {
         for _delivery in 0..=self.limit() {
@@ -379,6 +444,15 @@ impl Shared {
             }
         }
         Ok(())
+    }
+
+    /// Tells the role that is wanted of all that it was not told of and that is not held from it, and says whether a worker has to
+    /// be called, which may find more to do then.
+    pub(crate) fn deliver(&mut self, alloc: Global) -> Result<bool, AllocError>
+        ensures { self.new.world.scenario ≡ self.old.world.scenario }
+    {
+        self.tell_wanted(alloc)?;
+        Ok(self.crew.call())
     }
 
     /// Performs the steps of the script that do not wait. All is over where the run is finished.

@@ -7,11 +7,11 @@
 //! others sleep or are away too. What is handed out (keys, signatures, issuers'
 //! answers, judgements) is made outside the lock, after the gate, and there issuing and the request manager decide, which
 //! read certificates and keys for it.
-ghost use Rattle.std.specs.Prelude.{IfOk, IfSome};
+ghost use Rattle.std.specs.Prelude.{◌≡◌, IfOk, IfSome};
 ghost use Rattle.cmc_workers.specs.Drives.{CanBeDone};
 
 use crate::errands::{Answer, Errand, Outcome, Task};
-use crate::shared::Shared;
+use crate::shared::{Departure, Shared};
 use cmc_answers::Signer;
 use cmc_kernel::{Begun, decide};
 use cmc_keys::KeyMaker;
@@ -86,6 +86,15 @@ impl Hall {
         }
     }
 
+    /// Goes away with the errand. This thread may stay away for long, and another one may find more to do.
+    fn leave(&self, departure: Departure) -> Errand
+        ensures { result ≡ departure.errand }
+    {
+        let (errand, calls) = departure.into_parts();
+        self.call(calls);
+        errand
+    }
+
     /// Ends the work of all threads.
     fn stop<R: Wait>(&self, rt: &R) {
         self.shared.lock(rt).over = true;
@@ -116,18 +125,13 @@ impl Hall {
                 return Ok(None);
             }
             let before = shared.entries();
-            if let Some(errand) = shared.take(alloc)? {
-                // This thread may stay away for long, and others may find more to do.
-                let calls = shared.crew.leave();
+            if let Some(departure) = shared.take(alloc)? {
                 drop(shared);
-                self.call(calls);
-                return Ok(Some(errand));
+                return Ok(Some(self.leave(departure)));
             }
             if !shared.over {
                 self.pass_on(alloc, &shared, before < shared.entries())?;
-                shared.crew.fall_asleep();
                 shared = self.to_work.wait(rt, shared);
-                shared.crew.wake();
             }
         }
         unreachable!()
@@ -144,11 +148,9 @@ impl Hall {
         ensures { IfOk result (λ e. IfSome e (λ errand. CanBeDone errand.task)) }
     {
         let mut shared = self.shared.lock(rt);
-        if let Some(errand) = shared.come_back(alloc, outcome)? {
-            let calls = shared.crew.leave();
+        if let Some(departure) = shared.come_back(alloc, outcome)? {
             drop(shared);
-            self.call(calls);
-            return Ok(Some(errand));
+            return Ok(Some(self.leave(departure)));
         }
         self.pass_on(alloc, &shared, true)?;
         Ok(None)
@@ -213,12 +215,11 @@ impl Hall {
     fn deliver_all<R: Wait>(&self, rt: &R, alloc: Global) -> Result<(), AllocError> {
         let mut shared = self.shared.lock(rt);
         for _ in rt.forever() {
-            shared.deliver(alloc)?;
+            let calls = shared.deliver(alloc)?;
             if shared.over {
                 self.wake_all();
                 return Ok(());
             }
-            let calls = shared.crew.call();
             self.call(calls);
             shared = self.to_deliver.wait(rt, shared);
         }
