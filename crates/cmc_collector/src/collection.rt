@@ -1,13 +1,16 @@
 //! The collection and its moves.
 ghost use Rattle.std.specs.FinMap as finite;
 ghost use Rattle.std.specs.Option.{option_copied};
-ghost use Rattle.std.specs.Prelude.{◌≡◌, ◌-◌, ◌<◌, ◌≤◌, IfOk, OnOk, OnErr, [], None, Some, true, length, nat_lt, if◌then◌else◌};
+ghost use Rattle.std.specs.Prelude.{◌≡◌, ◌-◌, ◌<◌, ◌≤◌, ◌^◌, IfOk, OnOk, OnErr, [], None, Some, true, length, nat_lt, if◌then◌else◌};
 ghost use Rattle.cmc_collector.specs.CachePositions as caching;
 ghost use Rattle.cmc_collector.specs.Examinations as examining;
 ghost use Rattle.cmc_collector.specs.Moves as spec;
 ghost use Rattle.cmc_collector.specs.Owners.{CollectsWell};
-ghost use Rattle.cmc_collector.specs.Replays.{given_uids, on, store_state, stored_objects};
+ghost use Rattle.cmc_collector.specs.Replays.{given_uids, on, owner_key, store_state, stored_objects};
 ghost use Rattle.cmc_collector.specs.Settles.{FindsDue};
+ghost use Rattle.cmc_collector.specs.Watched.{after_call};
+ghost use Rattle.cmc_model.specs.Replies.{IsReply};
+ghost use Rattle.cmc_objects.specs.declared.call.Call.TheVariants as calls;
 ghost use Rattle.cmc_collect_moves.specs.declared.moves.Collected.TheVariants as answers;
 ghost use Rattle.cmc_collect_moves.specs.declared.moves.CollectMove.TheVariants as moves;
 
@@ -19,8 +22,8 @@ use crate::orphans::{current, first_due, is_due};
 use crate::rows::{Row, Rows, give_up_rows, make_rows};
 use crate::watched::WatchedStore;
 use cmc_collect_moves::{CollectLack, CollectMove, Collected, delete_of, get_of};
-use cmc_meta::{Key, Kind, Numbers, OwnerRef};
-use cmc_objects::Call;
+use cmc_meta::{Key, Kind, Name, Numbers, OwnerRef};
+use cmc_objects::{Call, Reply};
 use cmc_seed::HashSeed;
 use cmc_store::Store;
 use std::alloc::{AllocError, Global};
@@ -258,8 +261,7 @@ impl Collection {
         ensures ok { OnOk result (spec.LeavesCollected now (moves.User call) self.old answers.Done self.new) }
         ensures err { OnErr result (self.new ≡ self.old) }
     {
-        self.entries.reserve()?;
-        let reply = self.server.call(alloc, now, &call)?;
+        let reply = call_with_room(&mut self.entries, &mut self.server, alloc, now, &call)?;
         self.entries.push(now, CollectEntry::User { call, reply });
         Ok(())
     }
@@ -337,9 +339,14 @@ impl Collection {
         ensures ok { OnOk result (spec.LeavesCollected now (moves.Examine key) self.old answers.Done self.new) }
         ensures err { OnErr result (self.new ≡ self.old) }
     {
-        self.entries.reserve()?;
-        let call = get_of(&key.namespace, &owner)?;
-        let reply = self.server.call(alloc, now, &call)?;
+        let reply = look_with_room(
+            &mut self.entries,
+            &mut self.server,
+            alloc,
+            now,
+            &key.namespace,
+            &owner,
+        )?;
         let examination = examination.after(&owner, &reply);
         self.rows.set(&key, Row { examination });
         self.entries
@@ -361,9 +368,14 @@ impl Collection {
         ensures err { OnErr result (self.new ≡ self.old) }
     {
         let version = examination.version();
-        self.entries.reserve()?;
-        let call = delete_of(&key, version)?;
-        let reply = self.server.call(alloc, now, &call)?;
+        let reply = delete_with_room(
+            &mut self.entries,
+            &mut self.server,
+            alloc,
+            now,
+            &key,
+            version,
+        )?;
         self.rows.set(&key, Row { examination: None });
         self.entries.push(
             now,
@@ -375,4 +387,63 @@ impl Collection {
         );
         Ok(())
     }
+}
+
+/// Makes room for one more entry, and makes the call.
+fn call_with_room(
+    entries: &mut CollectEntries,
+    server: &mut WatchedStore,
+    alloc: Global,
+    now: i64,
+    call: &Call,
+) -> Result<Reply, AllocError>
+    requires { server.old.state.calls < 2 ^ 64 - 1 }
+    ensures room { OnOk result (0 < entries.new.spare) }
+    ensures same { entries.new.moments ≡ entries.old.moments }
+    ensures reply { IfOk result (λ r. IsReply server.old.faults server.old.state call.now r) }
+    ensures after { IfOk result (λ r. server.new ≡ after_call now call.now r server.old) }
+    ensures err { OnErr result (server.new ≡ server.old) }
+{
+    entries.reserve()?;
+    server.call(alloc, now, call)
+}
+
+/// Makes room for one more entry, and reads the owner of an object of this namespace.
+fn look_with_room(
+    entries: &mut CollectEntries,
+    server: &mut WatchedStore,
+    alloc: Global,
+    now: i64,
+    namespace: &Name,
+    owner: &OwnerRef,
+) -> Result<Reply, AllocError>
+    requires { server.old.state.calls < 2 ^ 64 - 1 }
+    ensures room { OnOk result (0 < entries.new.spare) }
+    ensures same { entries.new.moments ≡ entries.old.moments }
+    ensures reply { IfOk result (λ r. IsReply server.old.faults server.old.state (calls.Get (owner_key namespace.now owner.now)) r) }
+    ensures after { IfOk result (λ r. server.new ≡ after_call now (calls.Get (owner_key namespace.now owner.now)) r server.old) }
+    ensures err { OnErr result (server.new ≡ server.old) }
+{
+    let call = get_of(namespace, owner)?;
+    call_with_room(entries, server, alloc, now, &call)
+}
+
+/// Makes room for one more entry, and deletes the key's object at this version.
+fn delete_with_room(
+    entries: &mut CollectEntries,
+    server: &mut WatchedStore,
+    alloc: Global,
+    now: i64,
+    key: &Key,
+    version: u64,
+) -> Result<Reply, AllocError>
+    requires { server.old.state.calls < 2 ^ 64 - 1 }
+    ensures room { OnOk result (0 < entries.new.spare) }
+    ensures same { entries.new.moments ≡ entries.old.moments }
+    ensures reply { IfOk result (λ r. IsReply server.old.faults server.old.state (calls.Delete key.now (Some version)) r) }
+    ensures after { IfOk result (λ r. server.new ≡ after_call now (calls.Delete key.now (Some version)) r server.old) }
+    ensures err { OnErr result (server.new ≡ server.old) }
+{
+    let call = delete_of(key, version)?;
+    call_with_room(entries, server, alloc, now, &call)
 }
