@@ -1,5 +1,5 @@
 -- Loops over keys, over owners, and new caches.
-use Rattle.std.proofs.Common.{◌≡◌, ◌⊎◌, inl, inr, ℕ, suc, ◌<◌, ◌≤◌, ◌+◌, List, [], ◌∷◌, ◌++◌, length, take, drop, get_or, Bool, true, false, Option, refl, sym, ap, subst, ◌∙◌, arith, add-one, drop-cons}
+use Rattle.std.proofs.Common.{◌≡◌, ◌⊎◌, inl, inr, ℕ, suc, ◌<◌, ◌+◌, List, [], ◌∷◌, ◌++◌, length, take, drop, get_or, Bool, true, false, Option, refl, sym, ap, subst, ◌∙◌, arith, add-one, drop-cons}
 use Rattle.std.proofs.lemmas.List.{take_more}
 use Rattle.std.proofs.lemmas.List.Folds.{list_any-append}
 use Rattle.std.specs.Prelude.{if◌then◌else◌, ◌&&◌, ◌||◌}
@@ -7,6 +7,7 @@ use Rattle.std.specs.BTreeMap.{is_at}
 use Rattle.std.specs.List.{list_any}
 use Rattle.cmc_meta.specs.declared.key.Key.{Key}
 use Rattle.cmc_meta.specs.declared.key.Kind.{Kind}
+use Rattle.cmc_meta.specs.declared.key.Kind.TheVariants.{Certificate, CertificateRequest, Secret}
 use Rattle.cmc_meta.specs.declared.owners.OwnerRef.{OwnerRef}
 use Rattle.cmc_meta.specs.Keys.{key_cmp, key_eq}
 use Rattle.cmc_objects.specs.declared.object.Object.{Object}
@@ -14,7 +15,7 @@ use Rattle.cmc_model.specs.Objects.{no_objects}
 use Rattle.cmc_model.specs.Writes.{contents, oldest}
 use Rattle.cmc_informer.specs.Informers.{Informed}
 use Rattle.cmc_informer.proofs.OneMark.{equal_key, same_key}
-use Rattle.cmc_collector.specs.Caches.{IsInformerOf}
+use Rattle.cmc_collector.specs.Caches.{IsInformerOf, position_in}
 use Rattle.cmc_collector.specs.CachePositions.{are_gone, is_gone}
 use Rattle.cmc_collector.specs.Replays.{owner_key}
 
@@ -76,3 +77,9 @@ given_up false owned key k old new same off on is has = is ∙ has
 pub untold : (kind : Kind) (i : Informed) → i ≡ record { kind = kind; position = 0; objects = no_objects } → IsInformerOf kind i []
 unfolding contents oldest
 untold kind i is = subst (λ (j : Informed). IsInformerOf kind j []) (sym is) (record { kind_is = refl; within = omega arith; told = refl })
+
+pub begins_at : (a b c : Informed) → a ≡ record { kind = Certificate; position = 0; objects = no_objects } → b ≡ record { kind = CertificateRequest; position = 0; objects = no_objects }
+    → c ≡ record { kind = Secret; position = 0; objects = no_objects } → (k : Kind) → position_in k (record { certificates = a; requests = b; secrets = c }) ≡ 0
+begins_at a b c first second third Certificate = ap (λ (i : Informed). i.position) first
+begins_at a b c first second third CertificateRequest = ap (λ (i : Informed). i.position) second
+begins_at a b c first second third Secret = ap (λ (i : Informed). i.position) third

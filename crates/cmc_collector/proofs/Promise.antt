@@ -1,8 +1,8 @@
 -- What every collection keeps, whatever moves it makes.
-use Rattle.std.proofs.Common.{◌≡◌, ◌==◌, ℕ, ℤ, ◌≤◌, ◌<◌, ◌+◌, ◌-◌, List, [], ◌∷◌, length, Bool, true, false, Option, Some, None, refl, sym, ap, subst, ◌∙◌, arith}
+use Rattle.std.proofs.Common.{◌≡◌, ◌==◌, ℕ, ℤ, ◌≤◌, ◌+◌, ◌-◌, List, [], ◌∷◌, length, Bool, true, false, Option, Some, None, refl, sym, ap, subst, ◌∙◌, arith}
 use Rattle.std.proofs.lemmas.Bool.{and_parts, or_parts}
 use Rattle.std.proofs.lemmas.Bool.Decides.{nat_tests}
-use Rattle.std.specs.Prelude.{if◌then◌else◌, ◌≢◌, ◌&&◌, ◌||◌, not, MatchBool, MatchOption, nat_le, nat_lt, slice_get, zero, suc}
+use Rattle.std.specs.Prelude.{if◌then◌else◌, ◌≢◌, ◌||◌, not, MatchBool, MatchOption, nat_le, nat_lt, slice_get, zero, suc}
 use Rattle.std.specs.List.{list_any}
 use Rattle.cmc_meta.specs.declared.key.Key.{Key}
 use Rattle.cmc_meta.specs.declared.key.Kind.{Kind}

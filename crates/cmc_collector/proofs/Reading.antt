@@ -9,7 +9,7 @@ use Rattle.cmc_objects.specs.declared.object.Object.{Object}
 use Rattle.cmc_model.specs.declared.write.Write.{Write}
 use Rattle.cmc_model.specs.Objects.{object_at}
 use Rattle.cmc_model.specs.Replies.{State, empty_store}
-use Rattle.cmc_model.specs.Writes.{contents, last_of_kind, of_kind, oldest, writes}
+use Rattle.cmc_model.specs.Writes.{contents, last_of_kind, of_kind, oldest}
 use Rattle.cmc_model.proofs.Writes.{writes_count}
 use Rattle.cmc_collector.specs.declared.entry.Moment.{Moment}
 use Rattle.cmc_collector.specs.Caches.{AreCachesAt, Informers, informer_object, position_in}

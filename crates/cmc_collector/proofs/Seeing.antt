@@ -1,5 +1,5 @@
 -- The same of the parts as the code has them.
-use Rattle.std.proofs.Common.{◌≡◌, ℕ, ℤ, ◌≤◌, ◌<◌, ◌+◌, ◌-◌, List, [], ◌∷◌, length, Bool, true, false, Option, Some, None, refl, sym, ap, subst, ◌∙◌, arith}
+use Rattle.std.proofs.Common.{◌≡◌, ℕ, ℤ, ◌≤◌, ◌<◌, ◌-◌, List, [], ◌∷◌, length, Bool, true, false, Option, Some, None, refl, sym, ap, subst, ◌∙◌, arith}
 use Rattle.std.specs.Prelude.{if◌then◌else◌, nat_lt}
 use Rattle.cmc_meta.specs.declared.key.Key.{Key}
 use Rattle.cmc_meta.specs.declared.key.Kind.{Kind}
@@ -21,7 +21,7 @@ use Rattle.cmc_collector.specs.Examinations.{current, examined_after, next_owner
 use Rattle.cmc_collector.specs.Kept.{IsCollectorOf}
 use Rattle.cmc_collector.specs.Moves.{IsStoreReply, lack_of_delivery, delivery_entry, with_entry}
 use Rattle.cmc_collector.specs.Replays.{Collecting, given_uids, on, owner_key, played, setting}
-use Rattle.cmc_collector.specs.Rows.{Rowed, has_examine_row, examination_under}
+use Rattle.cmc_collector.specs.Rows.{AreCovered, Rowed, has_examine_row, examination_under}
 use Rattle.cmc_collector.specs.Watched.{Served, after_call}
 use Rattle.std.proofs.lemmas.Bool.{and_parts}
 use Rattle.std.proofs.lemmas.Bool.Decides.{nat_tests}
@@ -116,25 +116,46 @@ may_tell c kind to may =
     let above : position kind c.moments < to = grind (arith, nat_tests) in
     (above, news_within (setting c) c.moments kind to news)
 
-pub delivered_seen : (events : ℕ) (server : Served) (i new : Informers) (rows made next : Rowed) (ms more : List Moment) (now : ℤ) (kind : Kind) (to from at : ℕ) (e : CollectEntry) (keys : List Key)
-    → IsCollectorOf (seen server events ms) server i rows → on (lack_of_delivery kind to) (seen server events ms) ≡ None → e ≡ on (delivery_entry kind to) (seen server events ms) → from ≡ position_in kind i
-    → at ≡ (if nat_lt from (on given_uids (seen server events ms) - server.window) then on given_uids (seen server events ms) else to) → more ≡ record { now = now; entry = e } ∷ ms → length ms < events
-    → AreCachesAt new server.writes → Moves kind at i new
-    → AreKeys keys (λ k. is_changed kind from at server.writes k)
-    → ((k : Key) → list_any (is_at (key_cmp k)) keys ≡ true → has_examine_row made k ≡ true) → ((k : Key) → examination_under made k ≡ examination_under rows k) → ((k : Key) → has_examine_row rows k ≡ true → has_examine_row made k ≡ true)
-    → ((k : Key) → examination_under next k ≡ examination_under made k) → ((k : Key) → has_any_owner (informer_object new k) ≡ true → has_examine_row made k ≡ true → has_examine_row next k ≡ true)
+start_is : (events : ℕ) (server : Served) (i : Informers) (rows : Rowed) (ms : List Moment) (watch : Watched) → IsCollectorOf (seen server events ms) server i rows → watch.writes ≡ server.writes → watch.window ≡ server.window
+    → start_of watch ≡ on given_uids (seen server events ms) - server.window
+start_is events server i rows ms watch kept writes_are window_is =
+    ap (λ (ws : List Write). length ws - watch.window) writes_are ∙ ap (λ (n : ℕ). length server.writes - n) window_is ∙ ap (λ (n : ℕ). n - server.window) (count_is (seen server events ms) server i rows kept)
+
+-- where the informer comes to, in the words of the moments
+place_is : (events : ℕ) (server : Served) (i : Informers) (rows : Rowed) (ms : List Moment) (watch : Watched) (kind : Kind) (to : ℕ) → IsCollectorOf (seen server events ms) server i rows → watch.writes ≡ server.writes
+    → watch.window ≡ server.window
+    → position_after (position_in kind i) to watch ≡ (if nat_lt (position kind ms) (on given_uids (seen server events ms) - server.window) then on given_uids (seen server events ms) else to)
+place_is events server i rows ms watch kind to kept writes_are window_is =
+    ap (λ (n : ℕ). if nat_lt (position_in kind i) n then length watch.writes else to) (start_is events server i rows ms watch kept writes_are window_is)
+    ∙ ap (λ (n : ℕ). if nat_lt (position_in kind i) (on given_uids (seen server events ms) - server.window) then n else to) (ap (λ (ws : List Write). length ws) writes_are ∙ count_is (seen server events ms) server i rows kept)
+    ∙ ap (λ (n : ℕ). if nat_lt n (on given_uids (seen server events ms) - server.window) then on given_uids (seen server events ms) else to) (kept.position_is kind)
+
+pub delivered_seen : (events : ℕ) (server : Served) (i new : Informers) (rows next : Rowed) (watch : Watched) (ms more : List Moment) (now : ℤ) (kind : Kind) (to : ℕ) (e : CollectEntry)
+    → IsCollectorOf (seen server events ms) server i rows → on (lack_of_delivery kind to) (seen server events ms) ≡ None → e ≡ on (delivery_entry kind to) (seen server events ms)
+    → more ≡ record { now = now; entry = e } ∷ ms → length ms < events → watch.writes ≡ server.writes → watch.window ≡ server.window
+    → AreCachesAt new watch.writes → Moves kind (position_after (position_in kind i) to watch) i new
+    → ((k : Key) → examination_under next k ≡ examination_under rows k) → AreCovered new next
     → IsCollectorOf (seen server events more) server new next
-delivered_seen events server i new rows made next ms more now kind to from at e keys kept may entry start place are room after moves changed roomy same keeps still stays =
+delivered_seen events server i new rows next watch ms more now kind to e kept may entry are room writes_are window_is after moves same covered =
     let c : Collecting = seen server events ms in
-    let told_facts = may_tell c kind to may in
-    let begins : from ≡ position kind ms = start ∙ kept.position_is kind in
-    let ahead : position_in kind i ≤ at =
-    subst (λ (n : ℕ). n ≤ at) start (subst (λ (n : ℕ). from ≤ n) (sym place) (ahead_by (nat_lt from (on given_uids c - server.window)) from to (on given_uids c) (subst (λ (n : ℕ). n < to) (sym begins) told_facts.0) told_facts.1)) in
-    let covered = still_covered i new server.writes kind at rows made keys kept.told after ahead moves (subst (λ (n : ℕ). AreKeys keys (λ k. is_changed kind n at server.writes k)) start changed)
-    (held_covered c server i rows kept) keeps roomy in
     subst (λ (ns : List Moment). IsCollectorOf (seen server events ns) server new next) (sym are)
-    (delivered_kept c server i new rows next now kind to at e kept may entry (place ∙ ap (λ (n : ℕ). if nat_lt n (on given_uids c - server.window) then on given_uids c else to) begins) room after moves
-    (λ k. still k ∙ same k) (λ k owned. stays k owned (covered k owned)))
+    (delivered_kept c server i new rows next now kind to (position_after (position_in kind i) to watch) e kept may entry (place_is events server i rows ms watch kind to kept writes_are window_is) room
+    (subst (λ (ws : List Write). AreCachesAt new ws) writes_are after) moves same covered)
+
+-- with rows for what changed, and rows given up where nothing with owners is held, each object with owners has its row
+pub told_covered : (i new : Informers) (rows made next : Rowed) (watch : Watched) (kind : Kind) (to from at : ℕ) (keys : List Key)
+    → AreCachesAt i watch.writes → AreCachesAt new watch.writes → position_in kind i < to → to ≤ length watch.writes → from ≡ position_in kind i → at ≡ position_after from to watch
+    → Moves kind (position_after (position_in kind i) to watch) i new → AreKeys keys (λ k. is_changed kind from at watch.writes k) → AreCovered i rows
+    → ((k : Key) → list_any (is_at (key_cmp k)) keys ≡ true → has_examine_row made k ≡ true) → ((k : Key) → has_examine_row rows k ≡ true → has_examine_row made k ≡ true)
+    → ((k : Key) → has_any_owner (informer_object new k) ≡ true → has_examine_row made k ≡ true → has_examine_row next k ≡ true)
+    → AreCovered new next
+told_covered i new rows made next watch kind to from at keys told after above within start place moves changed old roomy keeps stays k owned =
+    let place_is : at ≡ position_after (position_in kind i) to watch = place ∙ ap (λ (n : ℕ). position_after n to watch) start in
+    let ahead : position_in kind i ≤ at =
+    subst (λ (n : ℕ). position_in kind i ≤ n) (sym place_is) (ahead_by (nat_lt (position_in kind i) (start_of watch)) (position_in kind i) to (length watch.writes) above within) in
+    stays k owned
+    (still_covered i new watch.writes kind at rows made keys told after ahead (subst (λ (n : ℕ). Moves kind n i new) (sym place_is) moves)
+    (subst (λ (n : ℕ). AreKeys keys (λ k. is_changed kind n at watch.writes k)) start changed) old keeps roomy k owned)
 
 -- ---- what is due
 
@@ -166,11 +187,6 @@ current_row events server i rows ms key x kept is =
     (ap (λ (t : Key → Bool). t key) (due_is (seen server events ms) server i rows kept) ∙ ap is_some is)
 
 -- ---- what a cache is told
-
-start_is : (events : ℕ) (server : Served) (i : Informers) (rows : Rowed) (ms : List Moment) (watch : Watched) → IsCollectorOf (seen server events ms) server i rows → watch.writes ≡ server.writes → watch.window ≡ server.window
-    → start_of watch ≡ on given_uids (seen server events ms) - server.window
-start_is events server i rows ms watch kept writes_are window_is =
-    ap (λ (ws : List Write). length ws - watch.window) writes_are ∙ ap (λ (n : ℕ). length server.writes - n) window_is ∙ ap (λ (n : ℕ). n - server.window) (count_is (seen server events ms) server i rows kept)
 
 pub tells_list : (events : ℕ) (server : Served) (i : Informers) (rows : Rowed) (ms : List Moment) (watch : Watched) (v : Collecting) (position start : ℕ) → IsCollectorOf (seen server events ms) server i rows
     → watch.writes ≡ server.writes → watch.window ≡ server.window → start ≡ start_of watch → seen server events ms ≡ v → position < start → nat_lt position (on given_uids v - v.window) ≡ true
@@ -221,12 +237,3 @@ deleted_at events server new i rows next ms more now key x n reply version kept 
 
 pub going_in : (events : ℕ) (server : Served) (ms : List Moment) (v : Collecting) (key : Key) (x : Examination) → seen server events ms ≡ v → on current v key ≡ Some x → on current (seen server events ms) key ≡ Some x
 going_in events server ms v key x view going = subst (λ (c : Collecting). on current c key ≡ Some x) (sym view) going
-
--- where the informer comes to, in the words of the moments
-pub place_is : (events : ℕ) (server : Served) (i : Informers) (rows : Rowed) (ms : List Moment) (watch : Watched) (p from at to : ℕ) → IsCollectorOf (seen server events ms) server i rows → watch.writes ≡ server.writes
-    → watch.window ≡ server.window → from ≡ p → at ≡ (if nat_lt from (on given_uids (seen server events ms) - server.window) then on given_uids (seen server events ms) else to) → position_after p to watch ≡ at
-place_is events server i rows ms watch p from at to kept writes_are window_is start place =
-    ap (λ (n : ℕ). if nat_lt p n then length watch.writes else to) (start_is events server i rows ms watch kept writes_are window_is)
-    ∙ ap (λ (n : ℕ). if nat_lt p (on given_uids (seen server events ms) - server.window) then n else to) (ap (λ (ws : List Write). length ws) writes_are ∙ count_is (seen server events ms) server i rows kept)
-    ∙ ap (λ (n : ℕ). if nat_lt n (on given_uids (seen server events ms) - server.window) then on given_uids (seen server events ms) else to) (sym start)
-    ∙ sym place

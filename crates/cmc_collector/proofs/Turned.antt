@@ -1,5 +1,5 @@
 -- What a move left, and how settling ended.
-use Rattle.std.proofs.Common.{◌≡◌, ℤ, Bool, true, false, Option, Some, refl, sym, subst, ◌∙◌}
+use Rattle.std.proofs.Common.{◌≡◌, ℤ, Bool, true, false, Option, Some, refl, sym, subst}
 use Rattle.std.specs.Prelude.{IsTrue, ◌↔◌}
 use Rattle.cmc_meta.specs.declared.key.Key.{Key}
 use Rattle.cmc_collect_moves.specs.declared.moves.CollectMove.{CollectMove}

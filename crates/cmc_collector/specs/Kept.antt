@@ -1,5 +1,5 @@
 -- What a collection keeps of its parts.
-use Rattle.std.specs.Prelude.{◌≡◌, ℕ, ◌≤◌, true, length}
+use Rattle.std.specs.Prelude.{◌≡◌, ◌≤◌, true, length}
 use Rattle.cmc_meta.specs.declared.key.Key.{Key}
 use Rattle.cmc_meta.specs.declared.key.Kind.{Kind}
 use Rattle.cmc_model.specs.Histories.{state}

@@ -1,7 +1,7 @@
 //! The collection and its moves.
 ghost use Rattle.std.specs.FinMap as finite;
 ghost use Rattle.std.specs.Option.{option_copied};
-ghost use Rattle.std.specs.Prelude.{◌≡◌, ◌-◌, ◌<◌, ◌≤◌, ◌^◌, IfOk, OnOk, OnErr, [], None, Some, true, length, nat_lt, if◌then◌else◌};
+ghost use Rattle.std.specs.Prelude.{◌≡◌, ◌-◌, ◌<◌, ◌≤◌, ◌^◌, IfOk, OnOk, OnErr, [], None, Some, true, length};
 ghost use Rattle.cmc_collector.specs.CachePositions as caching;
 ghost use Rattle.cmc_collector.specs.Examinations as examining;
 ghost use Rattle.cmc_collector.specs.Moves as spec;
@@ -19,7 +19,7 @@ use crate::entries::CollectEntries;
 use crate::entry::CollectEntry;
 use crate::examination::Examination;
 use crate::orphans::{current, first_due, is_due};
-use crate::rows::{Row, Rows, give_up_rows, make_rows};
+use crate::rows::{Row, Rows, tell_with_rows};
 use crate::watched::WatchedStore;
 use cmc_collect_moves::{CollectLack, CollectMove, Collected, delete_of, get_of};
 use cmc_meta::{Key, Kind, Name, Numbers, OwnerRef};
@@ -273,26 +273,17 @@ impl Collection {
         ensures err { OnErr result (self.new ≡ self.old) }
     {
         self.entries.reserve()?;
-        let from = self.caches.position(kind);
-        let at = self.told_to(from, to);
-        let entry = self.told(from, kind, to);
-        let changed = self.server.watch().changed(alloc, kind, from, at)?;
-        make_rows(&mut self.rows, changed.as_slice())?;
-        self.caches.tell(alloc, self.server.watch(), kind, to)?;
-        give_up_rows(&mut self.rows, &self.caches, changed.as_slice());
+        let entry = self.told(self.position(kind), kind, to);
+        tell_with_rows(
+            &mut self.caches,
+            &mut self.rows,
+            alloc,
+            self.server.watch(),
+            kind,
+            to,
+        )?;
         self.entries.push(now, entry);
         Ok(())
-    }
-
-    /// Where a cache at this position comes to that is told up to this write.
-    fn told_to(&self, position: u64, to: u64) -> u64
-        ensures { result ≡ (if nat_lt position (on given_uids self.now - self.now.window) then on given_uids self.now else to) }
-    {
-        let watch = self.server.watch();
-        if position < watch.start() {
-            return watch.accepted();
-        }
-        to
     }
 
     /// The entry for a cache at this position that is told up to this write.

@@ -1,18 +1,19 @@
 //! A row for each key that may be due.
-ghost use Rattle.std.specs.Prelude.{◌≡◌, IfOk, OnOk, None, false, if◌then◌else◌, true};
+ghost use Rattle.std.specs.Prelude.{◌≡◌, ◌<◌, ◌≤◌, IfOk, OnErr, OnOk, None, false, if◌then◌else◌, length, true};
 ghost use Rattle.std.specs.Option.{option_copied};
 ghost use Rattle.cmc_meta.specs.declared.key.Key.{Key as KeyValue};
 ghost use Rattle.cmc_meta.specs.Keys.{key_cmp, key_eq};
 ghost use Rattle.std.specs.BTreeMap.{is_at};
 ghost use Rattle.std.specs.List.{list_any};
-ghost use Rattle.cmc_collector.specs.Caches.{informer_object};
+ghost use Rattle.cmc_collector.specs.Caches.{AreCachesAt, Moves, informer_object, position_after, position_in};
 ghost use Rattle.cmc_collector.specs.CachePositions.{has_any_owner};
-ghost use Rattle.cmc_collector.specs.Rows.{has_examine_row, examination_under};
+ghost use Rattle.cmc_collector.specs.Rows.{AreCovered, has_examine_row, examination_under};
 
 use crate::caches::Caches;
 use crate::examination::Examination;
 use crate::orphans::is_owned;
-use cmc_meta::Key;
+use cmc_informer::Watch;
+use cmc_meta::{Key, Kind};
 use std::alloc::{AllocError, Global};
 use std::collections::BTreeMap;
 use std::marker::Model;
@@ -118,7 +119,7 @@ impl Rows {
 }
 
 /// Makes a row for each of the keys.
-pub(crate) fn make_rows(rows: &mut Rows, keys: &[Key]) -> Result<(), AllocError>
+fn make_rows(rows: &mut Rows, keys: &[Key]) -> Result<(), AllocError>
     ensures room { OnOk result ((k : KeyValue) → list_any (is_at (key_cmp k)) keys.now ≡ true → has_examine_row rows.new k ≡ true) }
     ensures same { (k : KeyValue) → examination_under rows.new k ≡ examination_under rows.old k }
     ensures keeps { (k : KeyValue) → has_examine_row rows.old k ≡ true → has_examine_row rows.new k ≡ true }
@@ -144,11 +145,49 @@ fn give_up_row(rows: &mut Rows, caches: &Caches, key: &Key)
 }
 
 /// Gives up the rows of those of the keys that need none. It takes no memory.
-pub(crate) fn give_up_rows(rows: &mut Rows, caches: &Caches, keys: &[Key])
+fn give_up_rows(rows: &mut Rows, caches: &Caches, keys: &[Key])
     ensures same { (k : KeyValue) → examination_under rows.new k ≡ examination_under rows.old k }
     ensures keeps { (k : KeyValue) → has_any_owner (informer_object caches.now k) ≡ true → has_examine_row rows.old k ≡ true → has_examine_row rows.new k ≡ true }
 {
     for key in keys {
         give_up_row(rows, caches, key);
     }
+}
+
+/// Where a cache at this position comes to that is told up to this write.
+fn told_to(watch: &Watch, position: u64, to: u64) -> u64
+    ensures { result ≡ position_after position to watch.now }
+{
+    if position < watch.start() {
+        return watch.accepted();
+    }
+    to
+}
+
+/// Tells the cache of the kind of the writes up to this one, with a row for each object with owners that it then holds.
+pub(crate) fn tell_with_rows(
+    caches: &mut Caches,
+    rows: &mut Rows,
+    alloc: Global,
+    watch: &Watch,
+    kind: Kind,
+    to: u64,
+) -> Result<(), AllocError>
+    requires told { AreCachesAt caches.old watch.now.writes }
+    requires above { position_in kind caches.old < to }
+    requires within { to ≤ length watch.now.writes }
+    requires covered { AreCovered caches.old rows.old }
+    ensures told { OnOk result (AreCachesAt caches.new watch.now.writes) }
+    ensures moved { OnOk result (Moves kind (position_after (position_in kind caches.old) to watch.now) caches.old caches.new) }
+    ensures err { OnErr result (caches.new ≡ caches.old) }
+    ensures same { (k : KeyValue) → examination_under rows.new k ≡ examination_under rows.old k }
+    ensures covered { AreCovered caches.new rows.new }
+{
+    let from = caches.position(kind);
+    let at = told_to(watch, from, to);
+    let changed = watch.changed(alloc, kind, from, at)?;
+    make_rows(rows, changed.as_slice())?;
+    caches.tell(alloc, watch, kind, to)?;
+    give_up_rows(rows, caches, changed.as_slice());
+    Ok(())
 }

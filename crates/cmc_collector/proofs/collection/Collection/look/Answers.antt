@@ -1,4 +1,4 @@
-use Rattle.std.proofs.Common.{◌≡◌, ℕ, ℤ, Option, ap, rules, subst, arith, ◌∙◌}
+use Rattle.std.proofs.Common.{◌≡◌, ℤ, Option, ap, rules, subst, arith, ◌∙◌}
 use Rattle.std.proofs.lemmas.Int.{to_z-of_z}
 use Rattle.std.specs.Int.{w64}
 use Rattle.std.specs.Prelude.{if◌then◌else◌}

@@ -1,4 +1,4 @@
-use Rattle.std.proofs.Common.{arith, length, ap, ◌∙◌}
+use Rattle.std.proofs.Common.{arith, length, ap}
 use Rattle.std.proofs.lemmas.Option.{slice_get_within}
 use Rattle.cmc_collector.specs.Owners.{owners_of}
 use Rattle.cmc_collector.proofs.examination.Examination.after.Goals as goal
