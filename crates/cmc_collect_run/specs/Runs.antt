@@ -73,6 +73,11 @@ abbrev pub SpendsEntries : List CollectStep → ℤ → Collecting → Type 0
 SpendsEntries [] now c = ⊥
 SpendsEntries (step ∷ steps) now c = StopsAtLimit now step c ⊎ ((middle : Collecting) × Stepped now step c middle × SpendsEntries steps (moment_after now step) middle)
 
+-- whether all steps were made, or one of them stops
+abbrev pub AreMade : Bool → ℤ → List CollectStep → Collecting → Collecting → Type 0
+AreMade true now steps old new = Made steps now old new
+AreMade false now steps old new = SpendsEntries steps now old
+
 -- after this answer the script goes on: there was room for the entry, where there is one
 abbrev pub collect_goes_on : Collected → Bool
 collect_goes_on Done = true

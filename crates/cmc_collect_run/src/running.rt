@@ -4,8 +4,9 @@ ghost use Rattle.cmc_objects.specs.Objects.{key_of};
 ghost use Rattle.cmc_model.specs.Objects.{object_at};
 ghost use Rattle.cmc_rules.specs.UserSteps.{apply_call};
 ghost use Rattle.cmc_collect_form.specs.Collections.{IsInTime};
+ghost use Rattle.cmc_collect_form.specs.Steps.{AreInTime};
 ghost use Rattle.cmc_collect_run.specs.Answers.{IsCollectionOf};
-ghost use Rattle.cmc_collect_run.specs.Runs.{IsMoved, IsStepped, collect_goes_on};
+ghost use Rattle.cmc_collect_run.specs.Runs.{AreMade, IsMoved, IsStepped, collect_goes_on};
 ghost use Rattle.cmc_collect_form.specs.declared.script.CollectStep.TheVariants.{Settle};
 
 use cmc_collect_form::{CollectScript, CollectStep};
@@ -28,19 +29,24 @@ pub enum Ran {
 fn call_of_apply(store: &Store, object: &Object, version: Option<u64>) -> Result<Call, AllocError>
     ensures { IfOk result (λ c. c ≡ apply_call object.now version (object_at store.now.state.objects (key_of object.now))) }
 {
-    let object = object.copy()?;
     if let Some(version) = version {
-        return Ok(Call::Update { object, version });
+        return Ok(Call::Update {
+            object: object.copy()?,
+            version,
+        });
     }
     let key = object.key()?;
     match store.peek(&key) {
         None => Ok(Call::Create {
-            object,
+            object: object.copy()?,
             generate: false,
         }),
         Some(old) => {
             let version = old.meta().version;
-            Ok(Call::Update { object, version })
+            Ok(Call::Update {
+                object: object.copy()?,
+                version,
+            })
         }
     }
 }
@@ -115,6 +121,30 @@ fn make_step(
     }
 }
 
+/// Makes the steps in order, the first of which comes at `now`. `false` exactly where one of them comes to an entry for which
+/// there is no room.
+fn make_steps(
+    collection: &mut Collection,
+    alloc: Global,
+    now: i64,
+    steps: &[CollectStep],
+) -> Result<bool, AllocError>
+    requires { AreInTime now steps.now }
+    ensures { IfOk result (λ made. AreMade made now steps.now collection.old collection.new) }
+{
+    let mut moment = now;
+    for step in steps {
+        if !make_step(collection, alloc, moment, step)? {
+            return Ok(false);
+        }
+        let Some(next) = step.after(moment) else {
+            unreachable!()
+        };
+        moment = next;
+    }
+    Ok(true)
+}
+
 /// Makes the steps of the script in order, on an empty store. A step that is not possible when its turn comes makes no
 /// entry. It ends at the first entry for which there is no room.
 pub fn run_script(alloc: Global, seed: HashSeed, script: CollectScript) -> Result<Ran, AllocError>
@@ -129,15 +159,8 @@ pub fn run_script(alloc: Global, seed: HashSeed, script: CollectScript) -> Resul
         window,
     } = script;
     let mut collection = Collection::seeded(alloc, seed, window, faults, events);
-    let mut moment = now;
-    for step in steps.as_slice() {
-        if !make_step(&mut collection, alloc, moment, step)? {
-            return Ok(Ran::Spent);
-        }
-        let Some(next) = step.after(moment) else {
-            unreachable!()
-        };
-        moment = next;
+    if make_steps(&mut collection, alloc, now, steps.as_slice())? {
+        return Ok(Ran::Finished(collection));
     }
-    Ok(Ran::Finished(collection))
+    Ok(Ran::Spent)
 }
