@@ -413,7 +413,7 @@ def small_tree(files):
             os.makedirs(os.path.dirname(f"{folder}/{path}"), exist_ok=True)
             cli.write_text(f"{folder}/{path}", text)
         os.makedirs(f"{folder}/tools")
-        for name in ("calls", "cli.py", "do", "names"):
+        for name in ("calls", "cli.py", "dear", "do", "names"):
             shutil.copy(f"{TOOLS}/{name}", f"{folder}/tools/{name}")
         yield f"{folder}/tools"
 
@@ -476,6 +476,18 @@ def test_above():
         lines = "    15  top\n    30  low\n    50  mid (estimated)\n   114  tests\n4 crates, 209 seconds of one processor\n"
         assert ran(["do", "above", "low"], tools=tools) == (0, lines, "")
         assert ran(["do", "above", "top"], tools=tools) == (0, "    15  top\n1 crates, 15 seconds of one processor\n", "")
+
+
+def test_dear():
+    """The functions of a check by what each took, the dearest first, from the lines that were kept of it."""
+    log = "10.0 begins\n14.5 rt: says more\n15.0 checked low::a, 1 of 3\n17.5 checked low::b, 2 of 3\n22.0 checked low::List::c, 3 of 3\n23.0 logic=proved\n"
+    with small_tree({"kept.log": log, "empty.log": "10.0 begins\n"}) as tools:
+        top = os.path.dirname(tools)
+        whole = "    5.0 before the second function\n    4.5 low::List::c\n    2.5 low::b\n   12.0 in all, 3 functions\n"
+        assert ran(["dear", f"{top}/kept.log"], tools=tools) == (0, whole, "")
+        assert ran(["dear", f"{top}/kept.log", "--most", "1"], tools=tools) == (0, whole.replace("    2.5 low::b\n", ""), "")
+        assert ran(["dear", f"{top}/empty.log"], tools=tools)[0] == 1
+        assert ran(["dear", "low"], tools=tools) == (2, "", "dear: there is neither a crate nor a file low\n")
 
 
 # ---- the page of calls
